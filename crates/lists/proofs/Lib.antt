@@ -1,0 +1,5 @@
+pub mod Cases
+pub mod Below
+pub mod Folds
+pub mod Counting
+pub mod All
