@@ -1,4 +1,7 @@
 // The servers: an array of 64 that goes in and comes back by value, one weight or count changed at a time.
+pub mod fresh;
+pub mod rules;
+
 ghost use mathlib.Core.Path.{_≡_};
 ghost use Prim.Native.Nat.{_<_, _≤_};
 ghost use Rattle.servers.specs.Servers.{serverAt, weightAt, countAt, withWeight, withCount, raised, lowered};
@@ -12,6 +15,12 @@ pub struct Server {
     pub port: u16,
     pub weight: u16,
     pub count: u32,
+}
+
+// Whether a search met a server.
+pub enum Found {
+    At(ServerNo),
+    Nobody,
 }
 
 // The server of a number; zeros where there is no such place.

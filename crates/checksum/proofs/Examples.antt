@@ -1,0 +1,29 @@
+-- The worked examples of RFC 1071 and RFC 1624, and the two edges of the edit's laws, by computation on the definitions.
+use mathlib.Core.Path.{_≡_, refl}
+use mathlib.Core.List.{[], _∷_}
+use mathlib.Core.Bool.{true, false}
+use Rattle.checksum.specs.Ones.{edited, onesAdd, inverted, onesSum, wordsOf, verifies, fresh, withWord}
+
+-- RFC 1071, section 3: the sum in normal order, and of the same bytes swapped two by two
+pub rfc1071 : onesSum (wordsOf (0x00 ∷ 0x01 ∷ 0xf2 ∷ 0x03 ∷ 0xf4 ∷ 0xf5 ∷ 0xf6 ∷ 0xf7 ∷ [])) ≡ 0xddf2
+rfc1071 = refl
+
+pub rfc1071-swapped : onesSum (wordsOf (0x01 ∷ 0x00 ∷ 0x03 ∷ 0xf2 ∷ 0xf5 ∷ 0xf4 ∷ 0xf7 ∷ 0xf6 ∷ [])) ≡ 0xf2dd
+rfc1071-swapped = refl
+
+-- P8, the example of RFC 1624, section 4: the other words' sum is CD7A, and a word 5555 becomes 3285
+pub p8-edit : edited 0xDD2F 0x5555 0x3285 ≡ 0x0000
+unfolding edited
+p8-edit = refl
+
+pub rfc1624-fresh : (fresh (0xCD7A ∷ 0x5555 ∷ []) ≡ 0xDD2F) × (fresh (0xCD7A ∷ 0x3285 ∷ []) ≡ 0x0000)
+rfc1624-fresh = (refl, refl)
+
+-- RFC 1141's formula, HC' = HC + m + ~m', gives FFFF there
+pub rfc1141 : onesAdd (onesAdd 0xDD2F 0x5555) (inverted 0x3285) ≡ 0xFFFF
+rfc1141 = refl
+
+-- where every other word is 0 an edit can turn a valid checksum invalid: all words are then 0
+pub all-zero : (verifies (0xFFFE ∷ 0x0001 ∷ []) ≡ true) × (verifies (withWord (0xFFFE ∷ 0x0001 ∷ []) 0 1 0) ≡ false)
+unfolding edited
+all-zero = (refl, refl)

@@ -1,0 +1,6 @@
+pub mod Words
+pub mod Totals
+pub mod Reduced
+pub mod Edits
+pub mod Laws
+pub mod Examples

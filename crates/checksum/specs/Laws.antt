@@ -1,0 +1,38 @@
+-- What RFC 1624's edit does to a checksum, as statements; proofs/Laws.antt proves them (`laws`). Assumes nothing: these are definitions.
+use mathlib.Core.Path.{_≡_}
+use mathlib.Core.Logic.{_↔_, _≢_}
+use mathlib.Core.Bool.{true}
+use mathlib.Core.List.{List}
+use Prim.Native.Nat.{ℕ, _<_}
+use lib.ListN.{length, getD, set}
+use Rattle.checksum.specs.Ones.{Words, verifies, edited, fresh, editedAt, withWord}
+
+-- words with their checksum at place i
+pub record Checked (ws : List ℕ) (i : ℕ) : Type 0 where
+  pub words : Words ws
+  pub place : i < length ws
+
+-- the word at another place j is to become m′; a third word, at place k, is not 0 (proofs/Examples.antt, `all-zero`, shows why)
+pub record Edit (ws : List ℕ) (i j m′ : ℕ) : Type 0 where
+  pub old : j < length ws
+  pub apart : i ≢ j
+  pub new : m′ < 65536
+  pub k : ℕ
+  pub third : (k ≢ i) × (k ≢ j) × (0 < getD ws k 0)
+
+-- the exception of equation 3: checksum and old word are FFFF and the new word is 0
+abbrev pub Exception : ℕ → ℕ → ℕ → Type 0
+Exception hc m m′ = (hc ≡ 65535) × (m ≡ 65535) × (m′ ≡ 0)
+
+pub record Laws : Type 0 where
+  -- after an edit the checksum verifies exactly if it did before
+  pub verifies-exactly : (ws : List ℕ) (i j m′ : ℕ) → Checked ws i → Edit ws i j m′ → verifies (withWord ws i j m′) ≡ verifies ws
+  -- of a valid checksum the edit is what a fresh calculation gives, in all but the exception
+  pub fresh-exactly : (ws : List ℕ) (i j m′ : ℕ) → Checked ws i → Edit ws i j m′ → verifies ws ≡ true
+      → (editedAt ws i j m′ ≡ fresh (set (set ws j m′) i 0)) ↔ (Exception (getD ws i 0) (getD ws j 0) m′ → ⊥)
+  -- an edit gives FFFF in the exception and nowhere else
+  pub ones-exactly : (hc m m′ : ℕ) → hc < 65536 → m < 65536 → (edited hc m m′ ≡ 65535) ↔ Exception hc m m′
+  -- a valid checksum that is not FFFF is what a fresh calculation gives
+  pub valid-fresh : (ws : List ℕ) (i : ℕ) → Checked ws i → verifies ws ≡ true → getD ws i 0 ≢ 65535 → getD ws i 0 ≡ fresh (set ws i 0)
+  -- where a valid checksum is FFFF and another word is not 0, a fresh calculation gives 0
+  pub ones-fresh : (ws : List ℕ) (i : ℕ) → Checked ws i → (k : ℕ) → k ≢ i → 0 < getD ws k 0 → verifies ws ≡ true → getD ws i 0 ≡ 65535 → fresh (set ws i 0) ≡ 0

@@ -1,0 +1,14 @@
+pub mod Whole
+pub mod Places
+pub mod Parts
+pub mod Written
+pub mod Header
+pub mod Segment
+pub mod Redirected
+pub mod Taken
+pub mod Verified
+pub mod Fresh
+pub mod Rereading
+pub mod Redirections
+pub mod Examples
+pub mod PastTotal

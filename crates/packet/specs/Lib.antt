@@ -1,0 +1,5 @@
+pub mod Bytes
+pub mod Reading
+pub mod Redirect
+pub mod Laws
+pub mod Examples

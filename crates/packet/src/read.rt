@@ -1,0 +1,191 @@
+// Reads an IPv4 packet with TCP or UDP in it (RFC 791, 9293, 768).
+use crate::bytes::address_at;
+use crate::bytes::bytes_in;
+use crate::bytes::header_length;
+use crate::bytes::length_at;
+use checksum::is_valid;
+use checksum::word_at;
+ghost use mathlib.Core.Path.{_≡_};
+ghost use Prim.Native.Nat.{_≤_};
+ghost use lib.ListN.{length};
+ghost use Rattle.packet.specs.Reading.{broken, fragment, flagsOf, readTcp, readUdp, readTransport, readPayload, readPacket, Whole};
+
+// The flags of a TCP header that connections go by.
+pub struct Flags {
+    pub syn: bool,
+    pub ack: bool,
+    pub rst: bool,
+    pub fin: bool,
+}
+
+// A TCP or UDP header: its ports, and TCP's flags (UDP has none: all are false).
+pub struct TransportHeader {
+    pub source: u16,
+    pub destination: u16,
+    pub flags: Flags,
+}
+
+// What reading a transport part finds.
+pub enum Transport {
+    Malformed,
+    Carried(TransportHeader),
+}
+
+// Why a packet is refused; `faultNumber` gives 01's number.
+pub enum Fault {
+    MalformedHeader,
+    Fragment,
+    OtherProtocol,
+    MalformedTransport,
+}
+
+// A packet that was taken: its lengths in bytes, addresses, and what its transport header holds.
+pub struct Packet {
+    pub header: usize,
+    pub total: usize,
+    pub source: u32,
+    pub destination: u32,
+    pub transport: TransportHeader,
+}
+
+// What reading a packet finds.
+pub enum Reading {
+    Refused(Fault),
+    Taken(Packet),
+}
+
+// Refusal 6.
+fn is_broken(p: &[u8]) -> bool
+    ensures { λ r. ⌜ r ≡ broken (now (p .entry)) ⌝ }
+{
+    if p.len() < 20 {
+        return true;
+    }
+    if p[0] / 16 != 4 {
+        return true;
+    }
+    if p[0] % 16 < 5 {
+        return true;
+    }
+    let header = header_length(p);
+    let total = length_at(p, 2);
+    if total < header {
+        return true;
+    }
+    if p.len() < total {
+        return true;
+    }
+    !is_valid(&p[..header])
+}
+
+// Refusal 7.
+fn is_fragment(p: &[u8]) -> bool
+    requires { ⌜ 20 ≤ length (now p) ⌝ }
+    ensures { λ r. ⌜ r ≡ fragment (now (p .entry)) ⌝ }
+{
+    let w = word_at(p, 6);
+    if w / 8192 % 2 == 1 {
+        return true;
+    }
+    w % 8192 != 0
+}
+
+// The flags in a TCP header's byte 13.
+fn flags_of(byte: u8) -> Flags
+    ensures { λ r. ⌜ r ≡ flagsOf byte ⌝ }
+{
+    Flags {
+        syn: byte / 2 % 2 == 1,
+        ack: byte / 16 % 2 == 1,
+        rst: byte / 4 % 2 == 1,
+        fin: byte % 2 == 1,
+    }
+}
+
+// A TCP segment, or refusal 9.
+fn read_tcp(t: &[u8]) -> Transport
+    ensures { λ r. ⌜ r ≡ readTcp (now (t .entry)) ⌝ }
+{
+    if t.len() < 20 {
+        return Transport::Malformed;
+    }
+    let words = t[12] / 16;
+    if words < 5 {
+        return Transport::Malformed;
+    }
+    if t.len() < bytes_in(words) {
+        return Transport::Malformed;
+    }
+    Transport::Carried(TransportHeader {
+        source: word_at(t, 0),
+        destination: word_at(t, 2),
+        flags: flags_of(t[13]),
+    })
+}
+
+// A UDP datagram, or refusal 9.
+fn read_udp(t: &[u8]) -> Transport
+    ensures { λ r. ⌜ r ≡ readUdp (now (t .entry)) ⌝ }
+{
+    if t.len() < 8 {
+        return Transport::Malformed;
+    }
+    if length_at(t, 4) != t.len() {
+        return Transport::Malformed;
+    }
+    Transport::Carried(TransportHeader {
+        source: word_at(t, 0),
+        destination: word_at(t, 2),
+        flags: Flags {
+            syn: false,
+            ack: false,
+            rst: false,
+            fin: false,
+        },
+    })
+}
+
+// The transport part, by the service's protocol: 6 is TCP, and the only other is UDP.
+fn read_transport(protocol: u8, t: &[u8]) -> Transport
+    ensures { λ r. ⌜ r ≡ readTransport protocol (now (t .entry)) ⌝ }
+{
+    match protocol {
+        6 => read_tcp(t),
+        _ => read_udp(t),
+    }
+}
+
+// A packet that refusals 6 to 8 do not name, or refusal 9.
+fn read_payload(protocol: u8, p: &[u8]) -> Reading
+    requires { ⌜ Whole (now p) ⌝ }
+    ensures { λ r. ⌜ r ≡ readPayload protocol (now (p .entry)) ⌝ }
+{
+    let header = header_length(p);
+    let total = length_at(p, 2);
+    match read_transport(protocol, &p[header..total]) {
+        Transport::Malformed => Reading::Refused(Fault::MalformedTransport),
+        Transport::Carried(transport) => Reading::Taken(Packet {
+            header,
+            total,
+            source: address_at(p, 12),
+            destination: address_at(p, 16),
+            transport,
+        }),
+    }
+}
+
+// The packet in `p` for a service of `protocol`, or the first of refusals 6 to 9 that applies.
+pub fn read_packet(protocol: u8, p: &[u8]) -> Reading
+    ensures { λ r. ⌜ r ≡ readPacket protocol (now (p .entry)) ⌝ }
+{
+    if is_broken(p) {
+        return Reading::Refused(Fault::MalformedHeader);
+    }
+    if is_fragment(p) {
+        return Reading::Refused(Fault::Fragment);
+    }
+    if p[9] != protocol {
+        return Reading::Refused(Fault::OtherProtocol);
+    }
+    read_payload(protocol, p)
+}

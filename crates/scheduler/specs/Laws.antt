@@ -1,0 +1,152 @@
+-- What the definitions are proved to mean. Assumes nothing: these are statements; each `..Law` is proved in proofs/.
+use mathlib.Core.Bool.{Bool, true, false}
+use mathlib.Core.List.{List}
+use mathlib.Core.Path.{_≡_}
+use Prim.Native.Nat.{ℕ, zero, suc, _+_, _%_, _<_, _≤_, _∣_}
+use Rattle.servers.specs.Servers.{serverAt, weightAt, withWeight, withCount}
+use Rattle.servers.specs.declared.Server.{Server}
+use Rattle.servers.specs.declared.ServerNo.{ServerNo}
+use Rattle.scheduler.specs.Weights.{weightsGcd, largestOf, noWeight}
+use Rattle.scheduler.specs.Walk.{afterIn, ringFrom, startOf, afterWeight, inRange}
+use Rattle.scheduler.specs.RoundRobin.{roundRobinOf}
+use Rattle.scheduler.specs.LeastConnection.{lighterBy, leastOf}
+use Rattle.scheduler.specs.Pick.{pickOf}
+use Rattle.servers.specs.declared.Found.{Found}
+use Rattle.scheduler.specs.declared.least_connection.Load.{Load}
+use Rattle.scheduler.specs.declared.walk.Place.{Place}
+use Rattle.scheduler.specs.declared.walk.Walk.{Walk}
+use Rattle.scheduler.specs.declared.walk.Picked.{Picked}
+
+-- 1. The weights
+
+-- g divides each of the first n weights, and whatever divides those above 0 divides g: zeros don't affect it
+pub record IsGcd (s : List Server) (n g : ℕ) : Type 0 where
+  pub divides : (j : ℕ) → j < n → g ∣ weightAt s j
+  pub greatest : (d : ℕ) → ((j : ℕ) → j < n → 0 < weightAt s j → d ∣ weightAt s j) → d ∣ g
+
+abbrev pub GcdLaw : Type 0
+GcdLaw = (s : List Server) (n : ℕ) → IsGcd s n (weightsGcd s n)
+
+-- no weight of the first n is above m, and some server has it
+pub record IsLargest (s : List Server) (n m : ℕ) : Type 0 where
+  pub above : (j : ℕ) → j < n → weightAt s j ≤ m
+  pub met : 0 < n → (j : ℕ) × (j < n) × (weightAt s j ≡ m)
+
+abbrev pub LargestLaw : Type 0
+LargestLaw = (s : List Server) (n : ℕ) → IsLargest s n (largestOf s n)
+
+-- each of the first n weights is 0
+abbrev pub EachZero : List Server → ℕ → Type 0
+EachZero s n = (j : ℕ) → j < n → weightAt s j ≡ 0
+
+-- the test for refusal 14 passes exactly where each weight is 0
+abbrev pub NoWeightLaw : Type 0
+NoWeightLaw = (s : List Server) (n : ℕ) → (noWeight s n ≡ true → EachZero s n) × (EachZero s n → noWeight s n ≡ true)
+
+-- 2. Schedulers 3 and 4 (argmin)
+
+-- r is the least loaded of the first n servers whose weight is above 0, and of equals the one of the lowest number
+pub record IsLeast (by : Load) (s : List Server) (n r : ℕ) : Type 0 where
+  pub below : r < n
+  pub weighs : 0 < weightAt s r
+  pub least : (j : ℕ) → j < n → 0 < weightAt s j → lighterBy by (serverAt s j) (serverAt s r) ≡ false
+  pub first : (j : ℕ) → j < r → 0 < weightAt s j → lighterBy by (serverAt s r) (serverAt s j) ≡ true
+
+-- what was found is the least loaded; nobody only where each weight is 0
+abbrev pub LeastFound : Load → List Server → ℕ → Found → Type 0
+LeastFound by s n (Found.At r) = IsLeast by s n (r .0)
+LeastFound by s n Found.Nobody = EachZero s n
+
+abbrev pub LeastLaw : Type 0
+LeastLaw = (by : Load) (s : List Server) (n : ℕ) → LeastFound by s n (leastOf by s n)
+
+-- 3. The ring, for schedulers 1 and 2
+
+-- the number after i is (i + 1) mod n
+abbrev pub AfterLaw : Type 0
+AfterLaw = (n i : ℕ) → i < n → afterIn n i ≡ (i + 1) % n
+
+-- the level at the number e steps after i, where the walk comes to i at the level cw
+unfoldable pub levelAfter : (ℕ → ℕ → ℕ) → ℕ → ℕ → ℕ → ℕ → ℕ
+levelAfter level n zero i cw = level i cw
+levelAfter level n (suc e) i cw = levelAfter level n e (afterIn n i) (level i cw)
+
+module _ (level : ℕ → ℕ → ℕ) (picks : ℕ → ℕ → Bool) (n : ℕ) where
+  -- of the k numbers (i + e) mod n, r is the first that is taken at its level, and the walk w is there at that level
+  pub record IsFirst (k i cw : ℕ) (r : ServerNo) (w : Walk) : Type 0 where
+    pub steps : ℕ
+    pub within : steps < k
+    pub number : r .0 ≡ (i + steps) % n
+    pub moved : w ≡ record { place = Place.At r; level = levelAfter level n steps i cw }
+    pub taken : picks (r .0) (levelAfter level n steps i cw) ≡ true
+    pub passed : (e : ℕ) → e < steps → picks ((i + e) % n) (levelAfter level n e i cw) ≡ false
+
+  -- what was picked is the first that is taken; nobody only where none of the k is
+  abbrev pub FirstFound : ℕ → ℕ → ℕ → Picked → Type 0
+  FirstFound k i cw (Picked.Server r w) = IsFirst k i cw r w
+  FirstFound k i cw Picked.Nobody = (e : ℕ) → e < k → picks ((i + e) % n) (levelAfter level n e i cw) ≡ false
+
+abbrev pub RingLaw : Type 0
+RingLaw =
+    (level : ℕ → ℕ → ℕ) (picks : ℕ → ℕ → Bool) (n k i cw : ℕ) → i < n → FirstFound level picks n k i cw (ringFrom level picks n k i cw)
+
+-- r is the next number after i in the ring with weight above 0
+pub record IsNext (s : List Server) (n i r : ℕ) : Type 0 where
+  pub steps : ℕ
+  pub above : 0 < steps
+  pub within : steps ≤ n
+  pub number : r ≡ (i + steps) % n
+  pub weighs : 0 < weightAt s r
+  pub passed : (e : ℕ) → 0 < e → e < steps → weightAt s ((i + e) % n) ≡ 0
+
+-- what was picked is the next after i; nobody only where each weight is 0
+abbrev pub NextFound : List Server → ℕ → ℕ → Picked → Type 0
+NextFound s n i (Picked.Server r w) = IsNext s n i (r .0)
+NextFound s n i Picked.Nobody = EachZero s n
+
+-- round-robin, with i the last pick
+abbrev pub NextLaw : Type 0
+NextLaw =
+    (s : List Server) (n : ℕ) (i : ServerNo) (cw : ℕ) → i .0 < n
+    → NextFound s n (i .0) (roundRobinOf s n (record { place = Place.At i; level = cw }))
+
+-- 4. The pick
+
+-- an existing server whose weight is above 0, and a walk in the range of scheduler k; nobody only where each weight is 0
+abbrev pub PickFound : ℕ → List Server → ℕ → Picked → Type 0
+PickFound k s n (Picked.Server r w) = (r .0 < n) × (0 < weightAt s (r .0)) × (inRange k s n w ≡ true)
+PickFound k s n Picked.Nobody = EachZero s n
+
+-- schedulers 1 to 4 with the walk in its range: so within the n numbers of the ring somebody is met, and the walk stays in range
+abbrev pub PickLaw : Type 0
+PickLaw =
+    (k : ℕ) (s : List Server) (n : ℕ) (w : Walk) → 0 < k → k ≤ 4
+    → inRange k s n w ≡ true → PickFound k s n (pickOf k s n w)
+
+abbrev pub isNobody : Picked → Bool
+isNobody (Picked.Server r w) = false
+isNobody Picked.Nobody = true
+
+-- with the walk in its range, nobody is picked exactly where every weight is 0 (refusal 14)
+abbrev pub NobodyLaw : Type 0
+NobodyLaw =
+    (k : ℕ) (s : List Server) (n : ℕ) (w : Walk) → 0 < k → k ≤ 4
+    → inRange k s n w ≡ true → isNobody (pickOf k s n w) ≡ noWeight s n
+
+-- 5. The walk's range
+
+-- the walk is in its range at its start
+abbrev pub StartLaw : Type 0
+StartLaw = (k : ℕ) (s : List Server) (n : ℕ) → 0 < n → inRange k s n (startOf k n) ≡ true
+
+-- and, if it was, after a weight call: server i's weight is set to x
+abbrev pub WeightLaw : Type 0
+WeightLaw =
+    (k : ℕ) (s : List Server) (n i x : ℕ) (w : Walk) → inRange k s n w ≡ true
+    → inRange k (withWeight s i x) n (afterWeight k w (weightAt s i) x) ≡ true
+
+-- a count set to c changes neither the range nor the test for refusal 14
+abbrev pub CountLaw : Type 0
+CountLaw =
+    (s : List Server) (n i c : ℕ)
+    → (noWeight (withCount s i c) n ≡ noWeight s n) × ((k : ℕ) (w : Walk) → inRange k (withCount s i c) n w ≡ inRange k s n w)

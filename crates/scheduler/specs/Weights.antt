@@ -1,0 +1,31 @@
+-- The largest weight, and the greatest common divisor of all weights. Assumes nothing: these are definitions.
+use mathlib.Core.Bool.{Bool}
+use mathlib.Core.List.{List}
+use Prim.Native.Nat.{ℕ, zero, suc, _%_, max}
+use lib.Dec.{eqb}
+use Rattle.lists.specs.Fold.{foldBelow}
+use Rattle.servers.specs.Servers.{weightAt}
+use Rattle.servers.specs.declared.Server.{Server}
+
+-- Euclid's algorithm in at most k steps: b, then the remainder of a by b
+unfoldable pub euclid : ℕ → ℕ → ℕ → ℕ
+euclid zero a b = a
+euclid (suc k) a zero = a
+euclid (suc k) a (suc b) = euclid k (suc b) (a % suc b)
+
+-- the greatest common divisor of two numbers: the remainder falls, so b steps are enough
+unfoldable pub gcdOf : ℕ → ℕ → ℕ
+unfolding euclid
+gcdOf a b = euclid b a b
+
+-- "the greatest common divisor of all weights (zeros don't affect it)", of the first n servers
+abbrev pub weightsGcd : List Server → ℕ → ℕ
+weightsGcd s n = foldBelow (λ g k. gcdOf g (weightAt s k)) 0 n
+
+-- "the largest weight" of the first n servers
+abbrev pub largestOf : List Server → ℕ → ℕ
+largestOf s n = foldBelow (λ m k. max m (weightAt s k)) 0 n
+
+-- "every weight is 0", of the first n servers (refusal 14)
+abbrev pub noWeight : List Server → ℕ → Bool
+noWeight s n = eqb (largestOf s n) 0

@@ -1,0 +1,14 @@
+pub mod Rows
+pub mod Search
+pub mod Finding
+pub mod Removal
+pub mod Connections
+pub mod Counts
+pub mod Soundness
+pub mod Tables
+pub mod Totals
+pub mod Clients
+pub mod Empty
+pub mod Expiry
+pub mod Tallies
+pub mod Examples

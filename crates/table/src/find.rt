@@ -1,0 +1,56 @@
+// Searches in the row: the lowest used slot of a client, and the lowest free slot.
+ghost use mathlib.Core.Path.{_≡_};
+ghost use Prim.Native.Nat.{_<_, _/_};
+ghost use lib.ListN.{length};
+ghost use Rattle.table.specs.Slots.{wordsPerSlot, slots, slotAt, isUnused};
+ghost use Rattle.table.specs.Find.{ofClient, firstFrom};
+use crate::slot::SlotNo;
+use crate::slot::WORDS;
+use crate::slot::is_unused_at;
+
+// The answer of a search.
+pub enum Found {
+    At(SlotNo),
+    Nothing,
+}
+
+// Whether slot `k` is a used slot of this client. Most slots have another address, so it is compared first.
+fn of_client_at(row: &[u32], k: SlotNo, address: u32, port: u16) -> bool
+    requires { ⌜ k .0 < length (now row) / wordsPerSlot ⌝ }
+    ensures { λ r. ⌜ r ≡ ofClient address port (slotAt (now (row .entry)) (k .0)) ⌝ }
+{
+    let at = WORDS * k.0;
+    if row[at + 1] != address {
+        return false;
+    }
+    if row[at + 2] != port as u32 {
+        return false;
+    }
+    row[at] != 0
+}
+
+// The lowest used slot of a client.
+pub fn find_client(row: &[u32], address: u32, port: u16) -> Found
+    ensures { λ r. ⌜ r ≡ firstFrom (ofClient address port) 0 (slots (now (row .entry))) ⌝ }
+{
+    let end = row.len() / WORDS;
+    for k in 0..end {
+        if of_client_at(row, SlotNo(k), address, port) {
+            return Found::At(SlotNo(k));
+        }
+    }
+    Found::Nothing
+}
+
+// The lowest free slot.
+pub fn find_free(row: &[u32]) -> Found
+    ensures { λ r. ⌜ r ≡ firstFrom isUnused 0 (slots (now (row .entry))) ⌝ }
+{
+    let end = row.len() / WORDS;
+    for k in 0..end {
+        if is_unused_at(row, SlotNo(k)) {
+            return Found::At(SlotNo(k));
+        }
+    }
+    Found::Nothing
+}
