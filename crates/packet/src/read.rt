@@ -8,7 +8,7 @@ use checksum::word_at;
 ghost use mathlib.Core.Path.{_≡_};
 ghost use Prim.Native.Nat.{_≤_};
 ghost use lib.ListN.{length};
-ghost use Rattle.packet.specs.Reading.{broken, fragment, flagsOf, readTcp, readUdp, readTransport, readPayload, readPacket, Whole};
+ghost use Rattle.packet.specs.Reading.{faultNumber, broken, fragment, flagsOf, readTcp, readUdp, readTransport, readPayload, readPacket, Whole};
 
 // The flags of a TCP header that connections go by.
 pub struct Flags {
@@ -37,6 +37,18 @@ pub enum Fault {
     Fragment,
     OtherProtocol,
     MalformedTransport,
+}
+
+// 01's number of a fault.
+pub fn fault_number(fault: Fault) -> u8
+    ensures { λ r. ⌜ r ≡ faultNumber fault ⌝ }
+{
+    match fault {
+        Fault::MalformedHeader => 6,
+        Fault::Fragment => 7,
+        Fault::OtherProtocol => 8,
+        Fault::MalformedTransport => 9,
+    }
 }
 
 // A packet that was taken: its lengths in bytes, addresses, and what its transport header holds.

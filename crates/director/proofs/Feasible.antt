@@ -1,0 +1,66 @@
+-- In a sound state, what is decided of a packet that can be redirected can be carried out. Assumes nothing.
+use Prim.Native.Nat.{ℕ, _<_, _≤_}
+use mathlib.Core.Bool.{true, false, false≢true}
+use mathlib.Core.List.{List}
+use mathlib.Core.Logic.{⊎-elim}
+use mathlib.Core.Path.{_≡_}
+use native.Mathlib.Omega.{arith}
+use borrow.Author.Tests.{leb-true, leb-false}
+use lib.Dec.{leb}
+use lib.ListN.{length, List·getD-eq-default}
+use Rattle.lists.proofs.Cases.{truth}
+use Rattle.lists.proofs.Numbers.{all-below}
+use Rattle.servers.specs.declared.Server.{Server}
+use Rattle.servers.specs.declared.rules.Rule.{Rule}
+use Rattle.servers.specs.Servers.{unused}
+use Rattle.servers.specs.Rules.{keeps, allKeep}
+use Rattle.packet.specs.Redirect.{Redirectable}
+use Rattle.table.specs.Slots.{slots, IsRow}
+use Rattle.table.specs.Sound.{slotsSound}
+use Rattle.table.proofs.Rows.{length-slots}
+use Rattle.table.proofs.Soundness.{count-slots, used-server}
+use Rattle.table.proofs.Tables.{sound-table}
+use Rattle.director.specs.declared.state.Director.{Director}
+use Rattle.director.specs.declared.segment.Segment.{Segment}
+use Rattle.director.specs.declared.decide.Decision.{Decision}
+use Rattle.director.specs.Judge.{soundOf}
+use Rattle.director.specs.Decide.{decided}
+use Rattle.director.specs.Carry.{Ready, Feasible}
+use Rattle.director.proofs.Sound.{Sound, sound-parts}
+use Rattle.director.proofs.Decisions.{Grounded, decided-grounded}
+
+-- servers none of whose addresses is 0 have places: past the last place all is 0
+places : (servers : List Server) (n : ℕ) → allKeep Rule.Set servers n ≡ true → n ≤ length servers
+places servers n set =
+    ⊎-elim
+    (λ (e : leb n (length servers) ≡ true). leb-true n (length servers) e)
+    (λ (e : leb n (length servers) ≡ false).
+    let past = all-below (keeps Rule.Set servers) n (length servers) set (leb-false n (length servers) e) in
+    absurd (false≢true (rw (List·getD-eq-default servers unused {n = length servers} (omega arith)) at past)))
+    (truth (leb n (length servers)))
+
+module _ (d : Director) (row p : List ℕ) (can : Redirectable (d .service .protocol) p) where
+  module _ (sound : Sound d row) where
+    table : IsRow row × (slotsSound (d .service .protocol) (d .service .servers) (d .clock) (slots row) (d .servers) ≡ true)
+    table = sound-table (d .service .protocol) (d .service .servers) (d .clock) row (d .servers) (sound .table)
+
+    room : d .service .servers ≤ length (d .servers)
+    room = places (d .servers) (d .service .servers) (sound .settings .set)
+
+    ready : (k : ℕ) → k < length (slots row) → Ready d row p k
+    ready k h = record { whole = table .0; within = omega (arith, length-slots row); packet = can }
+
+    -- a connection that is ended is counted, and the slots that a count counts are few
+    by-decision : (a : Decision) → Grounded d row a → Feasible d row p a
+    by-decision (Decision.Refuse why) whole = whole
+    by-decision (Decision.Keep k) has = ready (k .0) (has .within)
+    by-decision (Decision.End k) has =
+        let counted = used-server (d .service .protocol) (d .service .servers) (d .clock) (slots row) (d .servers) (table .1) (k .0) (has .within) (has .used) room in
+        (ready (k .0) (has .within), counted .1)
+    by-decision (Decision.Open k i walk) new =
+        let place : i .0 < length (d .servers) = omega (arith, new .server, room) in
+        let count = count-slots (d .service .protocol) (d .service .servers) (d .clock) (slots row) (d .servers) (table .1) (i .0) place in
+        (ready (k .0) (new .within), omega (arith, count, table .0 .most, length-slots row))
+
+  pub feasible : (m : Segment) → soundOf d row ≡ true → Feasible d row p (decided d (slots row) m)
+  feasible m sound = let s = sound-parts d row sound in by-decision s (decided d (slots row) m) (decided-grounded d row s m)

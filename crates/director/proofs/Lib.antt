@@ -1,0 +1,9 @@
+pub mod Sound
+pub mod Changes
+pub mod Settled
+pub mod Keeping
+pub mod Segments
+pub mod Decisions
+pub mod Feasible
+pub mod Carried
+pub mod PacketsSound

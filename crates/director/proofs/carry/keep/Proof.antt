@@ -1,0 +1,27 @@
+-- `carry::keep` meets its contract, by those of its calls in turn.
+-- Assumes nothing.
+use borrow.Author.Needs.{needs}
+use Rattle.director.proofs.carry.keep.Statement.{statement}
+use Rattle.director.proofs.carry.keep.Tie as tie
+
+returns : tie.Need-returns
+returns c =
+    simp (
+      c .before .before .pass .ensures .0,
+      c .before .before .pass .ensures .1,
+      c .before .before .before .before .before .before .put-slot .ensures,
+      c .before .before .before .before .before .before .before .touch .ensures,
+      c .before .before .before .before .before .before .before .before .before .before .slot-at .ensures,
+    )
+
+pub keep-spec : {M : Type 1} → statement M
+keep-spec =
+    tie.close
+    (tie.spec
+    (λ c κs. search needs)
+    (λ c κs. search needs)
+    (λ c κs. search needs)
+    (λ c κs. search needs)
+    (λ c. search needs)
+    (λ c. search needs)
+    returns)

@@ -1,0 +1,31 @@
+-- `carry::open` meets its contract, by those of its calls in turn; servers and walk are no matter to what the packet asks for.
+-- Assumes nothing.
+use borrow.Author.Needs.{needs}
+use Rattle.director.proofs.carry.open.Statement.{statement}
+use Rattle.director.proofs.carry.open.Tie as tie
+
+pass-requires : tie.Need-pass-requires
+pass-requires c κs = rw (c .before .with-servers .ensures) (c .before .before .before .before .before .before .before .before .before .before .before .pre .0 .packet)
+
+returns : tie.Need-returns
+returns c =
+    simp (
+      c .before .before .pass .ensures .0,
+      c .before .before .pass .ensures .1,
+      c .before .before .before .before .with-servers .ensures,
+      c .before .before .before .before .before .raise .ensures,
+      c .before .before .before .before .before .before .before .before .before .put-slot .ensures,
+    )
+
+pub open-spec : {M : Type 1} → statement M
+open-spec =
+    tie.close
+    (tie.spec
+    (λ c. search needs)
+    (λ c κs. search needs)
+    (λ c κs. search needs)
+    (λ c κs. search needs)
+    pass-requires
+    (λ c. search needs)
+    (λ c. search needs)
+    returns)

@@ -1,0 +1,95 @@
+-- What a decision does to state, slots and packet. Assumes nothing: these are definitions.
+use Prim.Native.Nat.{ℕ, _<_, _≤_, _/_}
+use mathlib.Core.Bool.{Bool, true, false, cond}
+use mathlib.Core.List.{List}
+use lib.Dec.{eqb}
+use lib.ListN.{length, getD, set}
+use Rattle.servers.specs.declared.Server.{Server}
+use Rattle.servers.specs.declared.ServerNo.{ServerNo}
+use Rattle.servers.specs.Servers.{serverAt, countAt, raised, lowered}
+use Rattle.scheduler.specs.declared.walk.Walk.{Walk}
+use Rattle.packet.specs.declared.redirect.Side.{Side}
+use Rattle.packet.specs.Redirect.{redirected, Redirectable}
+use Rattle.table.specs.declared.slot.Slot.{Slot}
+use Rattle.table.specs.Slots.{wordsPerSlot, slotOf, freeSlot, slotAt, IsRow}
+use Rattle.director.specs.declared.state.Director.{Director}
+use Rattle.director.specs.declared.state.Change.{Change}
+use Rattle.director.specs.declared.state.Answer.{Answer}
+use Rattle.director.specs.declared.state.Outcome.{Outcome}
+use Rattle.director.specs.declared.segment.Sender.{Sender}
+use Rattle.director.specs.declared.segment.Segment.{Segment}
+use Rattle.director.specs.declared.decide.Decision.{Decision}
+use Rattle.director.specs.State.{Held, refusalHeld}
+
+-- "An inbound FIN moves 1 to 2 and 3 to 4; outbound moves 1 to 3 and 2 to 4."
+abbrev pub phaseOnFin : ℕ → Sender → ℕ
+phaseOnFin phase Sender.Client = cond (eqb phase 1) 2 (cond (eqb phase 3) 4 phase)
+phaseOnFin phase (Sender.Server i) = cond (eqb phase 1) 3 (cond (eqb phase 2) 4 phase)
+
+abbrev pub phaseOf : ℕ → Bool → Sender → ℕ
+phaseOf phase true sender = phaseOnFin phase sender
+phaseOf phase false sender = phase
+
+-- a connection after a packet of it: "Every accepted packet sets last-seen."
+abbrev pub touched : Segment → ℕ → Slot → Slot
+touched m now s = record {
+  phase = phaseOf (s .phase) (m .flags .fin) (m .sender);
+  address = s .address;
+  port = s .port;
+  server = s .server;
+  seen = now;
+}
+
+-- the packet sent on: "Inbound rewriting sets destination address and port to the server's. Outbound sets source address and port to the
+-- virtual ones."
+abbrev pub forwarded : Director → ℕ → List ℕ → Sender → List ℕ
+forwarded d k p Sender.Client =
+    redirected (d .service .protocol) Side.Destination (serverAt (d .servers) k .address) (serverAt (d .servers) k .port) p
+forwarded d k p (Sender.Server i) = redirected (d .service .protocol) Side.Source (d .service .address) (d .service .port) p
+
+-- the state with other servers and another walk
+abbrev pub withServers : Director → List Server → Walk → Director
+withServers d servers walk = record { service = d .service; servers = servers; walk = walk; clock = d .clock }
+
+-- an accepted packet of server no: "return the server number and one of: opened, ended, kept"
+abbrev pub passedBy : Director → ServerNo → Change → Outcome
+passedBy d i change = record { answer = Answer.Passed i change; director = d }
+
+abbrev pub passed : Director → List Slot → List ℕ → Segment → ServerNo → Change → Held
+passed d l p m i change = record { answer = Answer.Passed i change; director = d; slots = l; packet = forwarded d (i .0) p (m .sender) }
+
+-- kept: the slot is written anew
+abbrev pub keptHeld : Director → List Slot → List ℕ → Segment → ℕ → Held
+keptHeld d l p m k =
+    let s = getD l k freeSlot in
+    passed d (set l k (touched m (d .clock) s)) p m (s .server) Change.Kept
+
+-- ended: "the slot zeroed, the count lowered"
+abbrev pub endedHeld : Director → List Slot → List ℕ → Segment → ℕ → Held
+endedHeld d l p m k =
+    let s = getD l k freeSlot in
+    passed (withServers d (lowered (d .servers) (s .server .0)) (d .walk)) (set l k freeSlot) p m (s .server) Change.Ended
+
+-- opened: "phase 1, last-seen the clock, server's count plus 1"
+abbrev pub openedHeld : Director → List Slot → List ℕ → Segment → ℕ → ServerNo → Walk → Held
+openedHeld d l p m k i walk =
+    passed (withServers d (raised (d .servers) (i .0)) walk) (set l k (slotOf 1 (m .address) (m .port) (i .0) (d .clock))) p m i Change.Opened
+
+abbrev pub carriedOut : Director → List Slot → List ℕ → Segment → Decision → Held
+carriedOut d l p m (Decision.Refuse why) = refusalHeld why d l p
+carriedOut d l p m (Decision.Keep k) = keptHeld d l p m (k .0)
+carriedOut d l p m (Decision.End k) = endedHeld d l p m (k .0)
+carriedOut d l p m (Decision.Open k i walk) = openedHeld d l p m (k .0) i walk
+
+-- what a function that writes slot k and the packet asks for: a whole row that has the slot, and a packet that can be redirected
+pub record Ready (d : Director) (row p : List ℕ) (k : ℕ) : Type 0 where
+  pub whole : IsRow row
+  pub within : k < length row / wordsPerSlot
+  pub packet : Redirectable (d .service .protocol) p
+
+-- what is asked for where a decision is carried out
+abbrev pub Feasible : Director → List ℕ → List ℕ → Decision → Type 0
+Feasible d row p (Decision.Refuse why) = IsRow row
+Feasible d row p (Decision.Keep k) = Ready d row p (k .0)
+Feasible d row p (Decision.End k) = Ready d row p (k .0) × (1 ≤ countAt (d .servers) (slotAt row (k .0) .server .0))
+Feasible d row p (Decision.Open k i walk) = Ready d row p (k .0) × (countAt (d .servers) (i .0) < 4294967295)

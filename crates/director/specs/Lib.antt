@@ -1,0 +1,9 @@
+pub mod State
+pub mod Judge
+pub mod Setup
+pub mod Control
+pub mod Tick
+pub mod Segment
+pub mod Decide
+pub mod Carry
+pub mod Packets

@@ -1,0 +1,31 @@
+-- Setup. Assumes nothing: these are definitions.
+use Prim.Native.Nat.{ℕ}
+use mathlib.Core.List.{List, []}
+use lib.ListN.{length, replicate}
+use Rattle.servers.specs.declared.Server.{Server}
+use Rattle.servers.specs.Fresh.{freshServers}
+use Rattle.scheduler.specs.Walk.{startOf}
+use Rattle.director.specs.declared.state.Service.{Service}
+use Rattle.director.specs.declared.state.Director.{Director}
+use Rattle.director.specs.declared.state.Answer.{Answer}
+use Rattle.director.specs.declared.judge.Verdict.{Verdict}
+use Rattle.director.specs.State.{Result, refusal}
+use Rattle.director.specs.Judge.{settingsJudged}
+
+-- "Accepted, setup zeroes the row, all counts and the clock, and puts the walk at its start."
+abbrev pub newDirector : Service → List Server → Director
+newDirector g given = record {
+  service = g;
+  servers = freshServers given (g .servers);
+  walk = startOf (g .scheduler) (g .servers);
+  clock = 0;
+}
+
+abbrev pub onVerdict : Director → Service → List Server → List ℕ → Verdict → Result
+onVerdict d g given row (Verdict.Refused why) = refusal why d row []
+onVerdict d g given row Verdict.Accepted =
+    record { answer = Answer.Done; director = newDirector g given; row = replicate (length row) 0; packet = [] }
+
+-- setup: "handed the present state beside its settings and doesn't judge it; refused, it gives that state back"
+unfoldable pub setupOf : Director → Service → List Server → List ℕ → Result
+setupOf d g given row = onVerdict d g given row (settingsJudged g given row)

@@ -1,0 +1,213 @@
+// What was decided of a packet, carried out on state, row and packet.
+use crate::decide::Decision;
+use crate::segment::Segment;
+use crate::segment::Sender;
+use crate::state::Answer;
+use crate::state::Change;
+use crate::state::Director;
+use crate::state::Outcome;
+use crate::state::refuse;
+use packet::redirect::Side;
+use packet::redirect::redirect_packet;
+use scheduler::walk::Walk;
+use servers::Server;
+use servers::ServerNo;
+use servers::lower;
+use servers::raise;
+use servers::server_at;
+use table::slot::Slot;
+use table::slot::SlotNo;
+use table::slot::free_slot;
+use table::slot::put_slot;
+use table::slot::slot_at;
+ghost use mathlib.Core.Path.{_≡_};
+ghost use Prim.Native.Nat.{_<_, _≤_};
+ghost use Rattle.servers.specs.Servers.{countAt};
+ghost use Rattle.packet.specs.Redirect.{Redirectable};
+ghost use Rattle.table.specs.Slots.{slots, slotAt};
+ghost use Rattle.director.specs.State.{result, inWords};
+ghost use Rattle.director.specs.Carry.{phaseOf, touched, forwarded, withServers, passedBy, keptHeld, endedHeld, openedHeld, carriedOut, Ready, Feasible};
+
+// The phase after a packet of a connection.
+fn phase_after(phase: u32, fin: bool, sender: Sender) -> u32
+    ensures { λ r. ⌜ r ≡ phaseOf phase fin sender ⌝ }
+{
+    if !fin {
+        return phase;
+    }
+    match sender {
+        Sender::Client => match phase {
+            1 => 2,
+            3 => 4,
+            _ => phase,
+        },
+        Sender::Server(_) => match phase {
+            1 => 3,
+            2 => 4,
+            _ => phase,
+        },
+    }
+}
+
+// A connection after a packet of it.
+fn touch(slot: Slot, segment: Segment, clock: u32) -> Slot
+    ensures { λ r. ⌜ r ≡ touched segment clock slot ⌝ }
+{
+    let sender = segment.sender;
+    let flags = segment.flags;
+    let server = slot.server;
+    Slot {
+        phase: phase_after(slot.phase, flags.fin, sender),
+        address: slot.address,
+        port: slot.port,
+        server,
+        seen: clock,
+    }
+}
+
+// Sends a packet on: a client's to server `no`, a server's to its client.
+fn forward(packet: &mut [u8], director: Director, sender: Sender, no: ServerNo)
+    requires { ⌜ Redirectable (director .service .protocol) (now packet) ⌝ }
+    ensures { λ _. ⌜ now (packet .exit) ≡ forwarded director (no .0) (now (packet .entry)) sender ⌝ }
+{
+    let service = director.service;
+    let servers = director.servers;
+    match sender {
+        Sender::Client => {
+            let server = server_at(servers, no);
+            redirect_packet(
+                packet,
+                service.protocol,
+                Side::Destination,
+                server.address,
+                server.port,
+            );
+        }
+        Sender::Server(_) => {
+            redirect_packet(
+                packet,
+                service.protocol,
+                Side::Source,
+                service.address,
+                service.port,
+            );
+        }
+    }
+}
+
+// The state with other servers and another walk.
+fn with_servers(director: Director, servers: [Server; 64], walk: Walk) -> Director
+    ensures { λ r. ⌜ r ≡ withServers director servers walk ⌝ }
+{
+    let service = director.service;
+    Director {
+        service,
+        servers,
+        walk,
+        clock: director.clock,
+    }
+}
+
+// An accepted packet of server `no`.
+fn pass(
+    director: Director,
+    packet: &mut [u8],
+    segment: Segment,
+    no: ServerNo,
+    change: Change,
+) -> Outcome
+    requires { ⌜ Redirectable (director .service .protocol) (now packet) ⌝ }
+    ensures packet { λ r. ⌜ now (packet .exit) ≡ forwarded director (no .0) (now (packet .entry)) (segment .sender) ⌝ }
+    ensures outcome { λ r. ⌜ r ≡ passedBy director no change ⌝ }
+{
+    let sender = segment.sender;
+    forward(packet, director, sender, no);
+    Outcome {
+        answer: Answer::Passed(no, change),
+        director,
+    }
+}
+
+// The packet's connection, in slot `k`, is kept.
+fn keep(
+    director: Director,
+    row: &mut [u32],
+    packet: &mut [u8],
+    segment: Segment,
+    k: SlotNo,
+) -> Outcome
+    requires { ⌜ Ready director (now row) (now packet) (k .0) ⌝ }
+    ensures { λ r. ⌜ result r (now (row .exit)) (now (packet .exit)) ≡ inWords (keptHeld director (slots (now (row .entry))) (now (packet .entry)) segment (k .0)) ⌝ }
+{
+    let slot = slot_at(row, k);
+    let no = slot.server;
+    put_slot(row, k, touch(slot, segment, director.clock));
+    pass(director, packet, segment, no, Change::Kept)
+}
+
+// The packet's connection, in slot `k`, is ended.
+fn end(
+    director: Director,
+    row: &mut [u32],
+    packet: &mut [u8],
+    segment: Segment,
+    k: SlotNo,
+) -> Outcome
+    requires { ⌜ Ready director (now row) (now packet) (k .0) ⌝ }
+    requires { ⌜ 1 ≤ countAt (director .servers) (slotAt (now row) (k .0) .server .0) ⌝ }
+    ensures { λ r. ⌜ result r (now (row .exit)) (now (packet .exit)) ≡ inWords (endedHeld director (slots (now (row .entry))) (now (packet .entry)) segment (k .0)) ⌝ }
+{
+    let slot = slot_at(row, k);
+    let no = slot.server;
+    free_slot(row, k);
+    let servers = director.servers;
+    let walk = director.walk;
+    let after = with_servers(director, lower(servers, no), walk);
+    pass(after, packet, segment, no, Change::Ended)
+}
+
+// A connection of the packet's client to server `no` is opened in slot `k`.
+fn open(
+    director: Director,
+    row: &mut [u32],
+    packet: &mut [u8],
+    segment: Segment,
+    k: SlotNo,
+    no: ServerNo,
+    walk: Walk,
+) -> Outcome
+    requires { ⌜ Ready director (now row) (now packet) (k .0) ⌝ }
+    requires { ⌜ countAt (director .servers) (no .0) < 4294967295 ⌝ }
+    ensures { λ r. ⌜ result r (now (row .exit)) (now (packet .exit)) ≡ inWords (openedHeld director (slots (now (row .entry))) (now (packet .entry)) segment (k .0) no walk) ⌝ }
+{
+    let slot = Slot {
+        phase: 1,
+        address: segment.address,
+        port: segment.port as u32,
+        server: no,
+        seen: director.clock,
+    };
+    put_slot(row, k, slot);
+    let servers = director.servers;
+    let after = with_servers(director, raise(servers, no), walk);
+    pass(after, packet, segment, no, Change::Opened)
+}
+
+// Carries out what was decided of a packet.
+pub fn carry_out(
+    director: Director,
+    row: &mut [u32],
+    packet: &mut [u8],
+    segment: Segment,
+    decision: Decision,
+) -> Outcome
+    requires { ⌜ Feasible director (now row) (now packet) decision ⌝ }
+    ensures { λ r. ⌜ result r (now (row .exit)) (now (packet .exit)) ≡ inWords (carriedOut director (slots (now (row .entry))) (now (packet .entry)) segment decision) ⌝ }
+{
+    match decision {
+        Decision::Refuse(why) => refuse(director, why),
+        Decision::Keep(k) => keep(director, row, packet, segment, k),
+        Decision::End(k) => end(director, row, packet, segment, k),
+        Decision::Open(k, no, walk) => open(director, row, packet, segment, k, no, walk),
+    }
+}

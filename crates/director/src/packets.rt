@@ -1,0 +1,84 @@
+// The packet calls: 15, 6 to 11, then 12 to 14.
+use crate::carry::carry_out;
+use crate::decide::decide;
+use crate::judge::is_sound;
+use crate::segment::Seen;
+use crate::segment::Segment;
+use crate::segment::Way;
+use crate::segment::read_segment;
+use crate::state::Director;
+use crate::state::Outcome;
+use crate::state::Refusal;
+use crate::state::refuse;
+use crate::tick::settle;
+ghost use mathlib.Core.Path.{_≡_};
+ghost use mathlib.Core.Bool.{true};
+ghost use Rattle.packet.specs.Redirect.{Redirectable};
+ghost use Rattle.table.specs.Slots.{slots};
+ghost use Rattle.director.specs.State.{result, inWords};
+ghost use Rattle.director.specs.Judge.{soundOf};
+ghost use Rattle.director.specs.Packets.{routed, packetHeld, packetOf};
+ghost use Rattle.director.specs.declared.segment.Way.{Way};
+
+// A packet that got past 11: its refusal, 12 to 14, or what becomes of its connection.
+fn route(director: Director, row: &mut [u32], packet: &mut [u8], segment: Segment) -> Outcome
+    requires { ⌜ (soundOf director (now row) ≡ true) × Redirectable (director .service .protocol) (now packet) ⌝ }
+    ensures { λ r. ⌜ result r (now (row .exit)) (now (packet .exit)) ≡ inWords (routed director (slots (now (row .entry))) (now (packet .entry)) segment) ⌝ }
+{
+    let decision = decide(director, row, segment);
+    carry_out(director, row, packet, segment, decision)
+}
+
+// A packet call of a sound state.
+pub fn packet_sound(
+    way: Way,
+    director: Director,
+    row: &mut [u32],
+    packet: &mut [u8],
+    clock: u32,
+) -> Outcome
+    requires { ⌜ soundOf director (now row) ≡ true ⌝ }
+    ensures { λ r. ⌜ result r (now (row .exit)) (now (packet .exit)) ≡ inWords (packetHeld way director (slots (now (row .entry))) (now (packet .entry)) clock) ⌝ }
+{
+    match read_segment(way, director, packet) {
+        Seen::Refused(why) => refuse(director, why),
+        Seen::Segment(segment) => {
+            if clock < director.clock {
+                return refuse(director, Refusal::EarlierClock);
+            }
+            let settled = settle(director, row, clock);
+            let present = settled.director;
+            route(present, row, packet, segment)
+        }
+    }
+}
+
+// A packet call: 15 where the state handed in is not sound.
+fn take_packet(
+    way: Way,
+    director: Director,
+    row: &mut [u32],
+    packet: &mut [u8],
+    clock: u32,
+) -> Outcome
+    ensures { λ r. ⌜ result r (now (row .exit)) (now (packet .exit)) ≡ packetOf way director (now (row .entry)) (now (packet .entry)) clock ⌝ }
+{
+    if !is_sound(director, row) {
+        return refuse(director, Refusal::Unsound);
+    }
+    packet_sound(way, director, row, packet, clock)
+}
+
+// Takes a packet from a client.
+pub fn inbound(director: Director, row: &mut [u32], packet: &mut [u8], clock: u32) -> Outcome
+    ensures { λ r. ⌜ result r (now (row .exit)) (now (packet .exit)) ≡ packetOf Way.Inbound director (now (row .entry)) (now (packet .entry)) clock ⌝ }
+{
+    take_packet(Way::Inbound, director, row, packet, clock)
+}
+
+// Takes a packet from a server.
+pub fn outbound(director: Director, row: &mut [u32], packet: &mut [u8], clock: u32) -> Outcome
+    ensures { λ r. ⌜ result r (now (row .exit)) (now (packet .exit)) ≡ packetOf Way.Outbound director (now (row .entry)) (now (packet .entry)) clock ⌝ }
+{
+    take_packet(Way::Outbound, director, row, packet, clock)
+}

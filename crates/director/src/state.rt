@@ -1,0 +1,87 @@
+// The director's state, and what a call answers.
+use packet::read::Fault;
+use scheduler::walk::Walk;
+use servers::Server;
+use servers::ServerNo;
+ghost use mathlib.Core.Path.{_≡_};
+ghost use Rattle.director.specs.State.{refusedBy};
+
+// What the director serves: given by setup, and changed by nothing else.
+pub struct Service {
+    // the virtual address and port
+    pub address: u32,
+    pub port: u16,
+    // 6 is TCP, 17 is UDP
+    pub protocol: u8,
+    // 1 to 4
+    pub scheduler: u8,
+    // how many servers there are
+    pub servers: u32,
+}
+
+// The state that goes into a call and comes back from it; the connection table is lent beside it.
+pub struct Director {
+    pub service: Service,
+    pub servers: [Server; 64],
+    pub walk: Walk,
+    pub clock: u32,
+}
+
+// Why a call is refused; `refusalNumber` gives 01's number.
+pub enum Refusal {
+    // 1: number of servers or length of the row
+    Size,
+    // 2: virtual address or port 0, protocol, scheduler
+    Service,
+    // 3: a server's address or port is 0
+    ServerUnset,
+    // 4: two servers with equal address and port
+    ServerRepeated,
+    // 5: no server of that number
+    NoServer,
+    // 6 to 9: the packet can't be read
+    Packet(Fault),
+    // 10: not to the service, or not from a server
+    OtherEndpoint,
+    // 11: earlier than the stored clock
+    EarlierClock,
+    // 12: no connection, and the packet opens none
+    NoConnection,
+    // 13: no slot is free
+    TableFull,
+    // 14: every weight is 0
+    NoWeight,
+    // 15: the state handed in is not sound
+    Unsound,
+}
+
+// What became of an accepted packet's connection.
+pub enum Change {
+    Opened,
+    Kept,
+    Ended,
+}
+
+// What a call answers: a setup or weight call `Done`, a count or tick call a number, a packet call the server and the change.
+pub enum Answer {
+    Done,
+    Number(u32),
+    Passed(ServerNo, Change),
+    Refused(Refusal),
+}
+
+// An answer, with the state beside it.
+pub struct Outcome {
+    pub answer: Answer,
+    pub director: Director,
+}
+
+// A refusal: the state as it is.
+pub fn refuse(director: Director, why: Refusal) -> Outcome
+    ensures { λ r. ⌜ r ≡ refusedBy why director ⌝ }
+{
+    Outcome {
+        answer: Answer::Refused(why),
+        director,
+    }
+}
