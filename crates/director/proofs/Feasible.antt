@@ -30,7 +30,7 @@ use Rattle.director.proofs.Sound.{Sound, sound-parts}
 use Rattle.director.proofs.Decisions.{Grounded, decided-grounded}
 
 -- servers none of whose addresses is 0 have places: past the last place all is 0
-places : (servers : List Server) (n : ℕ) → allKeep Rule.Set servers n ≡ true → n ≤ length servers
+pub places : (servers : List Server) (n : ℕ) → allKeep Rule.Set servers n ≡ true → n ≤ length servers
 places servers n set =
     ⊎-elim
     (λ (e : leb n (length servers) ≡ true). leb-true n (length servers) e)

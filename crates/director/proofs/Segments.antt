@@ -1,4 +1,4 @@
--- What is known of a packet that the director takes: it can be redirected, its client's port fits, and in UDP it has no FIN. Assumes nothing.
+-- What is known of a packet that the director takes: it can be redirected, its client's port fits, and in UDP it has no flags. Assumes nothing.
 use Prim.Native.Nat.{ℕ, _<_}
 use mathlib.Core.Bool.{Bool, true, false, cond, _&&_}
 use mathlib.Core.List.{List}
@@ -21,11 +21,15 @@ use Rattle.packet.specs.Redirect.{Redirectable}
 use Rattle.packet.proofs.Written.{word-below}
 use Rattle.packet.proofs.Verified.{payload-bytes}
 use Rattle.packet.proofs.Taken.{malformed, accepted, redirectable}
+use Rattle.servers.specs.declared.Server.{Server}
+use Rattle.servers.specs.declared.ServerNo.{ServerNo}
 use Rattle.servers.specs.declared.Found.{Found}
 use Rattle.servers.specs.Rules.{numberOf}
+use Rattle.director.specs.declared.state.Service.{Service}
 use Rattle.director.specs.declared.state.Director.{Director}
 use Rattle.director.specs.declared.state.Refusal.{Refusal}
 use Rattle.director.specs.declared.segment.Way.{Way}
+use Rattle.director.specs.declared.segment.Sender.{Sender}
 use Rattle.director.specs.declared.segment.Segment.{Segment}
 use Rattle.director.specs.declared.segment.Seen.{Seen}
 use Rattle.director.specs.Segment.{inboundSegment, onNumber, onReading, segmentRead}
@@ -43,26 +47,39 @@ refused why m e = let z : _≡_ {A = ℕ} 0 1 = cc in omega arith
 same-segment : (x m : Segment) → Seen.Segment x ≡ Seen.Segment m → x ≡ m
 same-segment x m e = cc
 
-module _ (d : Director) (p : List ℕ) (m : Segment) where
-  module _ (r : Packet) (taken : readPacket (d .service .protocol) p ≡ Reading.Taken r) where
-    inbound : (b : Bool) → cond b (inboundSegment r) (Seen.Refused Refusal.OtherEndpoint) ≡ Seen.Segment m → ReadFrom (d .service .protocol) p m
-    inbound true e = subst (ReadFrom (d .service .protocol) p) (same-segment _ m e) (record { packet = r; taken = taken; flags = refl; port = inl refl })
-    inbound false e = absurd (refused Refusal.OtherEndpoint m e)
+-- what holds of each segment that a packet can be read as holds of the one that it is read as
+module _ (g : Service) (servers : List Server) (p : List ℕ) (P : Way → Segment → Type 0)
+    (inbound : (r : Packet) → readPacket (g .protocol) p ≡ Reading.Taken r
+    → P Way.Inbound (record { address = r .source; port = r .transport .source; sender = Sender.Client; flags = r .transport .flags }))
+    (outbound : (r : Packet) → readPacket (g .protocol) p ≡ Reading.Taken r
+    → (i : ServerNo) → numberOf servers (r .source) (r .transport .source) (g .servers) ≡ Found.At i
+    → P Way.Outbound (record { address = r .destination; port = r .transport .destination; sender = Sender.Server i; flags = r .transport .flags })) where
+  by-endpoint : (r : Packet) → readPacket (g .protocol) p ≡ Reading.Taken r → (m : Segment)
+      → (to : Bool) → cond to (inboundSegment r) (Seen.Refused Refusal.OtherEndpoint) ≡ Seen.Segment m → P Way.Inbound m
+  by-endpoint r taken m true e = subst (P Way.Inbound) (same-segment _ m e) (inbound r taken)
+  by-endpoint r taken m false e = absurd (refused Refusal.OtherEndpoint m e)
 
-    outbound : (f : Found) → onNumber r f ≡ Seen.Segment m → ReadFrom (d .service .protocol) p m
-    outbound Found.Nobody e = absurd (refused Refusal.OtherEndpoint m e)
-    outbound (Found.At i) e = subst (ReadFrom (d .service .protocol) p) (same-segment _ m e) (record { packet = r; taken = taken; flags = refl; port = inr refl })
+  by-number : (r : Packet) → readPacket (g .protocol) p ≡ Reading.Taken r → (m : Segment)
+      → (f : Found) → numberOf servers (r .source) (r .transport .source) (g .servers) ≡ f → onNumber r f ≡ Seen.Segment m → P Way.Outbound m
+  by-number r taken m Found.Nobody number e = absurd (refused Refusal.OtherEndpoint m e)
+  by-number r taken m (Found.At i) number e = subst (P Way.Outbound) (same-segment _ m e) (outbound r taken i number)
 
-  by-reading : (way : Way) (r : Reading) → readPacket (d .service .protocol) p ≡ r → onReading way (d .service) (d .servers) r ≡ Seen.Segment m → ReadFrom (d .service .protocol) p m
-  by-reading way (Reading.Refused fault) taken e = absurd (refused (Refusal.Packet fault) m e)
-  by-reading Way.Inbound (Reading.Taken r) taken e =
-      inbound r taken (eqb (r .destination) (d .service .address) && eqb (r .transport .destination) (d .service .port)) e
-  by-reading Way.Outbound (Reading.Taken r) taken e =
-      outbound r taken (numberOf (d .servers) (r .source) (r .transport .source) (d .service .servers)) e
+  by-reading : (way : Way) (m : Segment) (r : Reading) → readPacket (g .protocol) p ≡ r → onReading way g servers r ≡ Seen.Segment m → P way m
+  by-reading way m (Reading.Refused fault) taken e = absurd (refused (Refusal.Packet fault) m e)
+  by-reading Way.Inbound m (Reading.Taken r) taken e =
+      by-endpoint r taken m (eqb (r .destination) (g .address) && eqb (r .transport .destination) (g .port)) e
+  by-reading Way.Outbound m (Reading.Taken r) taken e = by-number r taken m _ refl e
 
-  pub read-from : (way : Way) → segmentRead way (d .service) (d .servers) p ≡ Seen.Segment m → ReadFrom (d .service .protocol) p m
+  pub read-by : (way : Way) (m : Segment) → segmentRead way g servers p ≡ Seen.Segment m → P way m
   unfolding segmentRead
-  read-from way e = by-reading way (readPacket (d .service .protocol) p) refl e
+  read-by way m e = by-reading way m (readPacket (g .protocol) p) refl e
+
+module _ (d : Director) (p : List ℕ) (m : Segment) where
+  pub read-from : (way : Way) → segmentRead way (d .service) (d .servers) p ≡ Seen.Segment m → ReadFrom (d .service .protocol) p m
+  read-from way =
+      read-by (d .service) (d .servers) p (λ _. ReadFrom (d .service .protocol) p)
+      (λ r taken. record { packet = r; taken = taken; flags = refl; port = inl refl })
+      (λ r taken i number. record { packet = r; taken = taken; flags = refl; port = inr refl }) way m
 
   -- it can be redirected
   pub segment-redirectable : (way : Way) → segmentRead way (d .service) (d .servers) p ≡ Seen.Segment m → Redirectable (d .service .protocol) p
@@ -99,8 +116,10 @@ module _ (protocol : ℕ) (p : List ℕ) (m : Segment) (from : ReadFrom protocol
       let (source, destination) = ports-below (payload p) (from .packet .transport) protocol (payload-bytes p bytes) carried in
       ⊎-elim (λ (e : m .port ≡ from .packet .transport .source). rw e source) (λ (e : m .port ≡ from .packet .transport .destination). rw e destination) (from .port)
 
-  -- UDP has no FIN
+  -- UDP has no flags
+  pub no-flags : eqb protocol 6 ≡ false → m .flags ≡ noFlags
+  no-flags udp = from .flags ∙ ap (λ (x : TransportHeader). x .flags) (sym (udp-header (payload p) (from .packet .transport) (rw udp at carried)))
+
+  -- and so no FIN
   pub udp-unfinished : eqb protocol 17 ≡ true → m .flags .fin ≡ false
-  udp-unfinished udp =
-      let read : readTransport 17 (payload p) ≡ Transport.Carried (from .packet .transport) = rw (eqb-true protocol 17 udp) at carried in
-      ap (λ (f : Flags). f .fin) (from .flags ∙ ap (λ (x : TransportHeader). x .flags) (sym (udp-header (payload p) (from .packet .transport) read)))
+  udp-unfinished udp = ap (λ (f : Flags). f .fin) (no-flags (rw (eqb-true protocol 17 udp)))

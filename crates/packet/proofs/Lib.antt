@@ -10,5 +10,4 @@ pub mod Verified
 pub mod Fresh
 pub mod Rereading
 pub mod Redirections
-pub mod Examples
 pub mod PastTotal

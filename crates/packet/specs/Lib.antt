@@ -2,4 +2,3 @@ pub mod Bytes
 pub mod Reading
 pub mod Redirect
 pub mod Laws
-pub mod Examples

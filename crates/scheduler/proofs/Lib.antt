@@ -6,4 +6,3 @@ pub mod RoundRobin
 pub mod WeightedRoundRobin
 pub mod Picks
 pub mod Ranges
-pub mod Examples

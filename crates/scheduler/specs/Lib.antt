@@ -5,4 +5,3 @@ pub mod WeightedRoundRobin
 pub mod LeastConnection
 pub mod Pick
 pub mod Laws
-pub mod Examples

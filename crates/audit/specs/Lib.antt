@@ -1,0 +1,5 @@
+pub mod Calls
+pub mod Book
+pub mod Claim
+pub mod Run
+pub mod Examples
