@@ -3,15 +3,15 @@
 use Prim.Native.Nat.{ℕ, _<_, _≤_}
 use mathlib.Core.Bool.{Bool, true, false, not}
 use mathlib.Core.List.{List, [], _∷_, map}
-use mathlib.Core.Path.{_≡_, refl, _∙_}
+use mathlib.Core.Path.{_≡_, refl}
 use native.Mathlib.Omega.{arith}
 use lib.ListN.{length, getD, set}
-use Rattle.lists.specs.Tests.{countOf}
+use Rattle.lists.specs.Tests.{countOf, keep}
 use Rattle.lists.proofs.Cases.{by-test}
 use Rattle.lists.proofs.Counting.{count-same}
 use Rattle.servers.specs.declared.Server.{Server}
 use Rattle.servers.specs.Servers.{raised, lowered}
-use Rattle.servers.proofs.Ends.{SameEnds}
+use Rattle.servers.proofs.Ends.{SameEnds, ends-chain}
 use Rattle.servers.proofs.Kept.{ends-set}
 use Rattle.servers.proofs.Freshness.{fresh-ends}
 use Rattle.scheduler.specs.declared.walk.Walk.{Walk}
@@ -32,7 +32,7 @@ use Rattle.director.specs.Tick.{settled, settledSlots}
 use Rattle.director.specs.Carry.{touched, withServers}
 use Rattle.director.proofs.Sound.{Accepted}
 use Rattle.audit.specs.Calls.{setUp, Fits}
-use Rattle.audit.specs.Book.{Entry, Book, keep, ofClient, isStruck, newEntry, marked, onClient}
+use Rattle.audit.specs.Book.{Entry, Book, ofClient, isStruck, newEntry, marked, onClient}
 use Rattle.audit.proofs.Slots.{holds, Same, client-holds, touched-marked, same-struck, same-opened, same-kept, same-ended}
 
 -- a state, seen as slots, and the servers and entries of its book
@@ -67,9 +67,6 @@ once d l given es t address port =
     )
 
 -- 1. The servers stay where they are
-
-ends-chain : (n : ℕ) (s t u : List Server) → SameEnds n s t → SameEnds n t u → SameEnds n s u
-ends-chain n s t u a b = record { address = λ i h. a .address i h ∙ b .address i h; port = λ i h. a .port i h ∙ b .port i h }
 
 ends-lowered : (n : ℕ) (q : Slot → Bool) (l : List Slot) (servers : List Server) → SameEnds n (loweredBy q l servers) servers
 unfolding loweredBy

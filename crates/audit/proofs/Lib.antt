@@ -1,4 +1,3 @@
-pub mod Count
 pub mod Slots
 pub mod Passage
 pub mod Agreement

@@ -1,13 +1,12 @@
 -- What a packet says does not change with the servers' weights and counts; and an accepted packet, sent on, goes between its client and the
 -- server that the answer names. Assumes nothing.
 use Prim.Native.Nat.{ℕ, _<_}
-use mathlib.Core.Bool.{Bool, true, false}
+use mathlib.Core.Bool.{true}
 use mathlib.Core.List.{List}
-use mathlib.Core.Path.{_≡_, refl, sym, ap, subst, _∙_}
+use mathlib.Core.Path.{_≡_, refl, sym, ap, _∙_}
 use borrow.Author.Tests.{eqb-true}
 use lib.Dec.{eqb}
 use Rattle.lists.proofs.Cases.{both}
-use Rattle.lists.proofs.Folds.{fold-holds}
 use Rattle.checksum.specs.Ones.{Bytes}
 use Rattle.packet.specs.declared.read.Packet.{Packet}
 use Rattle.packet.specs.declared.read.Reading.{Reading}
@@ -19,8 +18,9 @@ use Rattle.servers.specs.declared.Server.{Server}
 use Rattle.servers.specs.declared.ServerNo.{ServerNo}
 use Rattle.servers.specs.declared.Found.{Found}
 use Rattle.servers.specs.Servers.{serverAt}
-use Rattle.servers.specs.Rules.{isAt, orElse, numberOf}
+use Rattle.servers.specs.Rules.{numberOf}
 use Rattle.servers.proofs.Ends.{SameEnds, number-same}
+use Rattle.servers.proofs.Endpoints.{number-found}
 use Rattle.director.specs.declared.state.Service.{Service}
 use Rattle.director.specs.declared.state.Director.{Director}
 use Rattle.director.specs.declared.segment.Way.{Way}
@@ -35,26 +35,7 @@ use Rattle.audit.specs.Calls.{setUp, Fits}
 use Rattle.audit.specs.Book.{Entry}
 use Rattle.audit.specs.Claim.{Goes}
 
--- 1. The server that a search for an address and port finds
-
-module _ (servers : List Server) (address port : ℕ) where
-  -- who was found is there
-  abbrev There : Found → Type 0
-  There (Found.At i) = isAt address port (serverAt servers (i .0)) ≡ true
-  There Found.Nobody = Unit {0}
-
-  there-next : (k : ℕ) (f : Found) → There f → There (orElse k (isAt address port (serverAt servers k)) f)
-  there-next k (Found.At i) there = there
-  there-next k Found.Nobody there = by-server (isAt address port (serverAt servers k)) refl
-    where
-      by-server : (here : Bool) → isAt address port (serverAt servers k) ≡ here → There (orElse k here Found.Nobody)
-      by-server true e = e
-      by-server false e = tt
-
-  number-found : (n : ℕ) (i : ServerNo) → numberOf servers address port n ≡ Found.At i → isAt address port (serverAt servers (i .0)) ≡ true
-  number-found n i e = subst There e (fold-holds _ _ (λ _ f. There f) tt there-next n)
-
--- 2. What a packet says
+-- 1. What a packet says
 
 -- a packet says the same to servers at the same addresses and ports
 pub read-same : (way : Way) (g : Service) (s t : List Server) (p : List ℕ) → SameEnds (g .servers) s t → segmentRead way g s p ≡ segmentRead way g t p
@@ -66,7 +47,7 @@ read-same way g s t p same = by-reading way (readPacket (g .protocol) p)
     by-reading Way.Inbound (Reading.Taken r) = refl
     by-reading Way.Outbound (Reading.Taken r) = ap (onNumber r) (number-same s t (g .servers) (r .source) (r .transport .source) same)
 
--- 3. Where it goes
+-- 2. Where it goes
 
 module _ (d : Director) (given : List Server) (clock : ℕ) (es : List Entry) (fits : Fits (setUp (d .service) given))
     (same : SameEnds (d .service .servers) (d .servers) given) (p : List ℕ) (bytes : Bytes p) (k : ℕ) (exists : k < d .service .servers) where

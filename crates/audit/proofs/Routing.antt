@@ -9,7 +9,7 @@ use native.Mathlib.Omega.{arith}
 use borrow.Author.Tests.{eqb-true, eq-eqb}
 use lib.Dec.{eqb}
 use lib.ListN.{length}
-use Rattle.lists.specs.Tests.{bit, countOf}
+use Rattle.lists.specs.Tests.{bit, countOf, keep}
 use Rattle.lists.proofs.Cases.{truth, by-test}
 use Rattle.lists.proofs.All.{all-at}
 use Rattle.lists.proofs.Counting.{count-same}
@@ -47,9 +47,9 @@ use Rattle.director.specs.Packets.{routed}
 use Rattle.director.proofs.Sound.{sound-parts}
 use Rattle.director.proofs.Segments.{read-from, no-flags}
 use Rattle.director.proofs.Decisions.{Grounded, decided-grounded}
-use Rattle.audit.specs.Book.{Entry, Book, keep, ofClient, names, clockAccepted, keepsClock, entered, noteAnswer}
+use Rattle.audit.specs.Book.{Entry, Book, ofClient, names, clockAccepted, keepsClock, entered, noteAnswer}
 use Rattle.audit.specs.Claim.{refused, isOpened, isEnded, mine, isStray, Passed}
-use Rattle.audit.proofs.Count.{count-off, keep-one}
+use Rattle.lists.proofs.Selecting.{count-off, keep-one}
 use Rattle.audit.proofs.Slots.{entryOf, holds, client-holds, client-parts, count-its}
 use Rattle.audit.proofs.Passage.{read-same, goes}
 use Rattle.audit.proofs.Agreement.{Matches, bookAt, Agree, agreed, matches-opened, matches-kept, matches-ended}

@@ -27,7 +27,7 @@ use Rattle.director.specs.Segment.{segmentRead}
 use Rattle.director.specs.Decide.{decided}
 use Rattle.director.specs.Packets.{routed, packetHeld, packetOf}
 use Rattle.audit.specs.Run.{twoServers, syn, fin, rst, Premise}
-use Rattle.audit.proofs.Count.{all-places}
+use Rattle.lists.proofs.Selecting.{all-places}
 
 -- a packet whose bytes pass the test has bytes
 are-bytes : (p : List ℕ) → allOf (λ x. ltb x 256) p ≡ true → Bytes p

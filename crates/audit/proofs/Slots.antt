@@ -9,7 +9,7 @@ use native.Mathlib.Omega.{arith}
 use borrow.Author.Tests.{eqb-true, not-true}
 use lib.Dec.{eqb, leb}
 use lib.ListN.{length, getD, set}
-use Rattle.lists.specs.Tests.{bit, countOf}
+use Rattle.lists.specs.Tests.{bit, countOf, keep}
 use Rattle.lists.proofs.Cases.{truth, both}
 use Rattle.lists.proofs.Counting.{count-set, count-some, count-same}
 use Rattle.table.specs.declared.slot.Slot.{Slot}
@@ -21,8 +21,8 @@ use Rattle.table.proofs.Clients.{free-nobody}
 use Rattle.director.specs.declared.segment.Sender.{Sender}
 use Rattle.director.specs.declared.segment.Segment.{Segment}
 use Rattle.director.specs.Carry.{phaseOf, touched}
-use Rattle.audit.specs.Book.{Entry, keep, ofClient, limit, isStruck, byClient, marked, onClient}
-use Rattle.audit.proofs.Count.{count-map, count-keep, count-split, count-one}
+use Rattle.audit.specs.Book.{Entry, ofClient, limit, isStruck, byClient, marked, onClient}
+use Rattle.lists.proofs.Selecting.{count-map, count-keep, count-split, count-one}
 
 -- who has finished in a phase: "2 the client has sent FIN; 3 the server has; 4 both"
 abbrev clientIn : ℕ → Bool

@@ -44,7 +44,7 @@ use Rattle.director.specs.Segment.{inboundSegment, onNumber, onReading, segment
 use Rattle.director.specs.Packets.{onClock, onSeen, packetHeld, packetOf}
 use Rattle.director.proofs.Sound.{judged, sound-parts}
 use Rattle.director.proofs.Settled.{settled-sound}
-use Rattle.director.proofs.Feasible.{places}
+use Rattle.servers.proofs.Endpoints.{places}
 use Rattle.audit.specs.Calls.{Call, setUp, setWeight, count, tick, packet, Fits, State, called}
 use Rattle.audit.specs.Book.{Entry, Book, names, isStruck, struck, keepsClock, timed, noteSeen, note}
 use Rattle.audit.specs.Claim.{refused, PacketClaim, CallClaim}

@@ -3,6 +3,7 @@ use Prim.Native.Nat.{ℕ, _-_}
 use mathlib.Core.Bool.{Bool, true, false, cond, not, _&&_, _||_}
 use mathlib.Core.List.{List, [], _∷_, map}
 use lib.Dec.{eqb, leb}
+use Rattle.lists.specs.Tests.{keep}
 use Rattle.servers.specs.declared.Server.{Server}
 use Rattle.director.specs.declared.state.Service.{Service}
 use Rattle.director.specs.declared.state.Change.{Change}
@@ -29,11 +30,6 @@ pub record Book : Type 0 where
   pub servers : List Server
   pub clock : ℕ
   pub entries : List Entry
-
--- the elements that pass, in their order
-unfoldable pub keep : {A : Type 0} → (A → Bool) → List A → List A
-keep p [] = []
-keep p (a ∷ l) = cond (p a) (a ∷ keep p l) (keep p l)
 
 -- the entry is of the packet's client
 abbrev pub ofClient : ℕ → ℕ → Entry → Bool

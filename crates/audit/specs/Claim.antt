@@ -4,7 +4,7 @@ use mathlib.Core.Bool.{Bool, true, false, not, _&&_}
 use mathlib.Core.List.{List, [], _∷_}
 use mathlib.Core.Path.{_≡_}
 use lib.Dec.{eqb, ltb}
-use Rattle.lists.specs.Tests.{countOf}
+use Rattle.lists.specs.Tests.{countOf, keep}
 use Rattle.servers.specs.Servers.{serverAt, countAt, totalCount}
 use Rattle.packet.specs.declared.read.Packet.{Packet}
 use Rattle.packet.specs.declared.read.Reading.{Reading}
@@ -20,7 +20,7 @@ use Rattle.director.specs.State.{Result, refusalNumber}
 use Rattle.director.specs.Segment.{segmentRead}
 use Rattle.director.specs.Decide.{opens, belongs}
 use Rattle.audit.specs.Calls.{Call, setUp, setWeight, count, tick, packet, Fits, AllFit, State, called, after, recordOf}
-use Rattle.audit.specs.Book.{Entry, Book, keep, ofClient, names, isStruck, struck, bookOf}
+use Rattle.audit.specs.Book.{Entry, Book, ofClient, names, isStruck, struck, bookOf}
 
 -- the answer is the refusal of that number
 abbrev pub refused : ℕ → Answer → Bool

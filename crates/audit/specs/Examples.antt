@@ -12,9 +12,7 @@ use Rattle.scheduler.specs.declared.walk.Walk.{Walk}
 use Rattle.scheduler.specs.declared.walk.Picked.{Picked}
 use Rattle.scheduler.specs.Pick.{pickOf}
 use Rattle.scheduler.specs.Walk.{startOf}
-use Rattle.table.specs.declared.slot.Slot.{Slot}
 use Rattle.table.specs.Slots.{slotOf, words}
-use Rattle.director.specs.declared.state.Service.{Service}
 use Rattle.director.specs.declared.state.Director.{Director}
 use Rattle.director.specs.declared.state.Answer.{Answer}
 use Rattle.director.specs.declared.segment.Way.{Way}

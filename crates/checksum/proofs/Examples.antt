@@ -11,10 +11,10 @@ rfc1071 = refl
 pub rfc1071-swapped : onesSum (wordsOf (0x01 ∷ 0x00 ∷ 0x03 ∷ 0xf2 ∷ 0xf5 ∷ 0xf4 ∷ 0xf7 ∷ 0xf6 ∷ [])) ≡ 0xf2dd
 rfc1071-swapped = refl
 
--- P8, the example of RFC 1624, section 4: the other words' sum is CD7A, and a word 5555 becomes 3285
-pub p8-edit : edited 0xDD2F 0x5555 0x3285 ≡ 0x0000
+-- RFC 1624, section 4 (P8): the other words' sum is CD7A, and a word 5555 becomes 3285
+pub rfc1624-edit : edited 0xDD2F 0x5555 0x3285 ≡ 0x0000
 unfolding edited
-p8-edit = refl
+rfc1624-edit = refl
 
 pub rfc1624-fresh : (fresh (0xCD7A ∷ 0x5555 ∷ []) ≡ 0xDD2F) × (fresh (0xCD7A ∷ 0x3285 ∷ []) ≡ 0x0000)
 rfc1624-fresh = (refl, refl)

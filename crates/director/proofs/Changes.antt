@@ -9,7 +9,7 @@ use Rattle.servers.specs.declared.Server.{Server}
 use Rattle.servers.specs.declared.rules.Rule.{Rule}
 use Rattle.servers.specs.Servers.{withCount}
 use Rattle.servers.specs.Rules.{allKeep}
-use Rattle.servers.proofs.Ends.{SameEnds, set-same, new-same}
+use Rattle.servers.proofs.Ends.{SameEnds, ends-chain, set-same, new-same}
 use Rattle.servers.proofs.Kept.{ends-set, unused-set}
 use Rattle.scheduler.specs.declared.walk.Walk.{Walk}
 use Rattle.scheduler.specs.Walk.{inRange}
@@ -59,10 +59,7 @@ recounted-same n s = record { ends = record { address = λ i h. refl; port = λ 
 
 pub recounted-chain : (n : ℕ) (s t u : List Server) → Recounted n s t → Recounted n t u → Recounted n s u
 recounted-chain n s t u a b = record {
-  ends = record {
-    address = λ i h. a .ends .address i h ∙ b .ends .address i h;
-    port = λ i h. a .ends .port i h ∙ b .ends .port i h;
-  };
+  ends = ends-chain n s t u (a .ends) (b .ends);
   unused = a .unused ∙ b .unused;
   range = λ k w. a .range k w ∙ b .range k w;
 }

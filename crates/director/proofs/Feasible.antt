@@ -1,25 +1,17 @@
 -- In a sound state, what is decided of a packet that can be redirected can be carried out. Assumes nothing.
 use Prim.Native.Nat.{ℕ, _<_, _≤_}
-use mathlib.Core.Bool.{true, false, false≢true}
+use mathlib.Core.Bool.{true}
 use mathlib.Core.List.{List}
-use mathlib.Core.Logic.{⊎-elim}
 use mathlib.Core.Path.{_≡_}
 use native.Mathlib.Omega.{arith}
-use borrow.Author.Tests.{leb-true, leb-false}
-use lib.Dec.{leb}
-use lib.ListN.{length, List·getD-eq-default}
-use Rattle.lists.proofs.Cases.{truth}
-use Rattle.lists.proofs.Numbers.{all-below}
-use Rattle.servers.specs.declared.Server.{Server}
-use Rattle.servers.specs.declared.rules.Rule.{Rule}
-use Rattle.servers.specs.Servers.{unused}
-use Rattle.servers.specs.Rules.{keeps, allKeep}
+use lib.ListN.{length}
 use Rattle.packet.specs.Redirect.{Redirectable}
 use Rattle.table.specs.Slots.{slots, IsRow}
 use Rattle.table.specs.Sound.{slotsSound}
 use Rattle.table.proofs.Rows.{length-slots}
 use Rattle.table.proofs.Soundness.{count-slots, used-server}
 use Rattle.table.proofs.Tables.{sound-table}
+use Rattle.servers.proofs.Endpoints.{places}
 use Rattle.director.specs.declared.state.Director.{Director}
 use Rattle.director.specs.declared.segment.Segment.{Segment}
 use Rattle.director.specs.declared.decide.Decision.{Decision}
@@ -28,16 +20,6 @@ use Rattle.director.specs.Decide.{decided}
 use Rattle.director.specs.Carry.{Ready, Feasible}
 use Rattle.director.proofs.Sound.{Sound, sound-parts}
 use Rattle.director.proofs.Decisions.{Grounded, decided-grounded}
-
--- servers none of whose addresses is 0 have places: past the last place all is 0
-pub places : (servers : List Server) (n : ℕ) → allKeep Rule.Set servers n ≡ true → n ≤ length servers
-places servers n set =
-    ⊎-elim
-    (λ (e : leb n (length servers) ≡ true). leb-true n (length servers) e)
-    (λ (e : leb n (length servers) ≡ false).
-    let past = all-below (keeps Rule.Set servers) n (length servers) set (leb-false n (length servers) e) in
-    absurd (false≢true (rw (List·getD-eq-default servers unused {n = length servers} (omega arith)) at past)))
-    (truth (leb n (length servers)))
 
 module _ (d : Director) (row p : List ℕ) (can : Redirectable (d .service .protocol) p) where
   module _ (sound : Sound d row) where
