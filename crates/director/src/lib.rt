@@ -1,12 +1,13 @@
 // The director: six calls over one virtual service, its servers and its connections. Each call takes the state by value and gives it back
 // beside its answer; the connection table's row and the packet are lent.
-pub mod carry;
+mod carry;
+mod clock;
 pub mod control;
-pub mod decide;
-pub mod judge;
+mod decide;
+mod judge;
 pub mod number;
 pub mod packets;
-pub mod segment;
+mod segment;
 pub mod setup;
 pub mod state;
 pub mod tick;

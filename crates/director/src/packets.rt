@@ -1,5 +1,6 @@
 // The packet calls: 15, 6 to 11, then 12 to 14.
 use crate::carry::carry_out;
+use crate::clock::settle;
 use crate::decide::decide;
 use crate::judge::is_sound;
 use crate::segment::Seen;
@@ -10,7 +11,6 @@ use crate::state::Director;
 use crate::state::Outcome;
 use crate::state::Refusal;
 use crate::state::refuse;
-use crate::tick::settle;
 ghost use mathlib.Core.Path.{_≡_};
 ghost use mathlib.Core.Bool.{true};
 ghost use Rattle.packet.specs.Redirect.{Redirectable};
@@ -30,7 +30,7 @@ fn route(director: Director, row: &mut [u32], packet: &mut [u8], segment: Segmen
 }
 
 // A packet call of a sound state.
-pub fn packet_sound(
+fn packet_sound(
     way: Way,
     director: Director,
     row: &mut [u32],

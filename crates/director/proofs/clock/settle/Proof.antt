@@ -1,10 +1,10 @@
--- `tick::settle` meets its contract: the table of a sound state is sound at a later clock, as its expiry asks.
+-- `clock::settle` meets its contract: the table of a sound state is sound at a later clock, as its expiry asks.
 -- Assumes nothing.
 use borrow.Author.Needs.{needs}
 use Rattle.table.proofs.Tables.{later-table}
 use Rattle.director.proofs.Sound.{sound-parts}
-use Rattle.director.proofs.tick.settle.Statement.{statement}
-use Rattle.director.proofs.tick.settle.Tie as tie
+use Rattle.director.proofs.clock.settle.Statement.{statement}
+use Rattle.director.proofs.clock.settle.Tie as tie
 
 expire-requires : tie.Need-expire-requires
 expire-requires c κs =
