@@ -1,91 +1,24 @@
 // A short story of one director: setup, three connections, a drain by weight 0, FIN both ways, an RST, idle time, and a count that reads zero.
-mod frame;
-mod print;
-
 use director::control::count;
 use director::control::set_weight;
 use director::packets::inbound;
 use director::packets::outbound;
 use director::setup::set_up;
 use director::state::Director;
-use director::state::Outcome;
-use director::state::Service;
 use director::tick::tick;
-use frame::ACK;
-use frame::FIN;
-use frame::RST;
-use frame::SYN;
-use frame::tcp;
-use print::print_answer;
-use scheduler::walk::Place;
-use scheduler::walk::Walk;
-use servers::Server;
+use sample::begin::CLIENT;
+use sample::begin::FIRST;
+use sample::begin::VIRTUAL;
+use sample::begin::blank;
+use sample::begin::replicas;
+use sample::begin::service;
+use sample::frame::ACK;
+use sample::frame::FIN;
+use sample::frame::RST;
+use sample::frame::SYN;
+use sample::frame::tcp;
+use sample::print::told;
 use servers::ServerNo;
-
-// 192.0.2.10:5432, the service; 10.1.0.5 and 10.1.0.6, port 6432, its servers; 10.0.0.1, where the clients are.
-const VIRTUAL: u32 = 0xC000020A;
-
-const FIRST: u32 = 0x0A010005;
-
-const SECOND: u32 = 0x0A010006;
-
-const CLIENT: u32 = 0x0A000001;
-
-// A server of a weight.
-fn replica(address: u32, port: u16, weight: u16) -> Server {
-    Server {
-        address,
-        port,
-        weight,
-        count: 0,
-    }
-}
-
-// Two servers of weight 1.
-fn replicas() -> [Server; 64] {
-    let mut servers = [Server {
-        address: 0,
-        port: 0,
-        weight: 0,
-        count: 0,
-    }; 64];
-    servers[0] = replica(FIRST, 6432, 1);
-    servers[1] = replica(SECOND, 6432, 1);
-    servers
-}
-
-// A service of TCP and round-robin, over n servers.
-fn service(address: u32, port: u16, n: u32) -> Service {
-    Service {
-        address,
-        port,
-        protocol: 6,
-        scheduler: 1,
-        servers: n,
-    }
-}
-
-// A state to begin with: setup doesn't judge it.
-fn blank() -> Director {
-    let none = service(0, 0, 0);
-    let servers = replicas();
-    Director {
-        service: none,
-        servers,
-        walk: Walk {
-            place: Place::Start,
-            level: 0,
-        },
-        clock: 0,
-    }
-}
-
-// The state after a call, its answer printed.
-fn told(outcome: Outcome) -> Director {
-    let answer = outcome.answer;
-    print_answer(answer);
-    outcome.director
-}
 
 // A packet of a client's port to the service.
 fn from_client(director: Director, row: &mut [u32], port: u16, flags: u8, clock: u32) -> Director {
@@ -102,7 +35,7 @@ fn from_first(director: Director, row: &mut [u32], port: u16, flags: u8, clock: 
 // Setup over two servers.
 fn begin(row: &mut [u32]) -> Director {
     io::write_all(1, b"setup: two servers, round-robin\n");
-    told(set_up(blank(), service(VIRTUAL, 5432, 2), replicas(), row))
+    told(set_up(blank(), service(2), replicas(), row))
 }
 
 // Three clients.

@@ -2,6 +2,8 @@
 use director::number::refusal_number;
 use director::state::Answer;
 use director::state::Change;
+use director::state::Director;
+use director::state::Outcome;
 
 // A word before a number, and the end of the line.
 fn print_line(text: &[u8], number: u32) {
@@ -29,4 +31,11 @@ pub fn print_answer(answer: Answer) {
         Answer::Passed(server, change) => print_passed(change, server.0),
         Answer::Refused(why) => print_line(b"  refused, number ", refusal_number(why) as u32),
     }
+}
+
+// The state after a call, its answer printed.
+pub fn told(outcome: Outcome) -> Director {
+    let answer = outcome.answer;
+    print_answer(answer);
+    outcome.director
 }
