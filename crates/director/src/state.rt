@@ -7,6 +7,7 @@ ghost use mathlib.Core.Path.{_≡_};
 ghost use Rattle.director.specs.State.{refusedBy};
 
 // What the director serves: given by setup, and changed by nothing else.
+#[repr(C)]
 pub struct Service {
     // the virtual address and port
     pub address: u32,

@@ -1,0 +1,94 @@
+// The director's six calls for C and Rust: the state by value as plain numbers (include/nidhaaguf.h), row and packet lent.
+// Each call decodes the state, calls the director and replies in 01's numbers. No call requires anything of its arguments.
+pub mod reply;
+pub mod state;
+
+use director::control::count;
+use director::control::set_weight;
+use director::packets::inbound;
+use director::packets::outbound;
+use director::setup::set_up;
+use director::state::Service;
+use director::tick::tick;
+use reply::Reply;
+use reply::reply_of;
+use servers::ServerNo;
+use state::Servers;
+use state::State;
+use state::decode;
+ghost use mathlib.Core.Path.{_≡_};
+ghost use mathlib.Core.List.{[]};
+ghost use Rattle.director.specs.Setup.{setupOf};
+ghost use Rattle.director.specs.Control.{weightOf, countCallOf};
+ghost use Rattle.director.specs.Tick.{tickOf};
+ghost use Rattle.director.specs.Packets.{packetOf};
+ghost use Rattle.director.specs.declared.segment.Way.{Way};
+ghost use Rattle.nidhaaguf.specs.State.{decoded};
+ghost use Rattle.nidhaaguf.specs.Reply.{replied, exported};
+
+// Sets up the service over the given servers.
+#[no_mangle]
+pub extern "C" fn nidhaaguf_set_up(
+    state: State,
+    service: Service,
+    servers: Servers,
+    row: &mut [u32],
+) -> Reply
+    ensures { λ r. ⌜ replied r (now (row .exit)) [] ≡ exported state (setupOf (decoded state) service (servers .server) (now (row .entry))) ⌝ }
+{
+    let settings = servers.server;
+    reply_of(state, set_up(decode(state), service, settings, row))
+}
+
+// Sets a server's weight.
+#[no_mangle]
+pub extern "C" fn nidhaaguf_set_weight(state: State, row: &[u32], number: u32, weight: u16) -> Reply
+    ensures { λ r. ⌜ replied r (now (row .entry)) [] ≡ exported state (weightOf (decoded state) (now (row .entry)) number weight) ⌝ }
+{
+    reply_of(
+        state,
+        set_weight(decode(state), row, ServerNo(number), weight),
+    )
+}
+
+// Tells a server's count.
+#[no_mangle]
+pub extern "C" fn nidhaaguf_count(state: State, row: &[u32], number: u32) -> Reply
+    ensures { λ r. ⌜ replied r (now (row .entry)) [] ≡ exported state (countCallOf (decoded state) (now (row .entry)) number) ⌝ }
+{
+    reply_of(state, count(decode(state), row, ServerNo(number)))
+}
+
+// Moves the clock on.
+#[no_mangle]
+pub extern "C" fn nidhaaguf_tick(state: State, row: &mut [u32], clock: u32) -> Reply
+    ensures { λ r. ⌜ replied r (now (row .exit)) [] ≡ exported state (tickOf (decoded state) (now (row .entry)) clock) ⌝ }
+{
+    reply_of(state, tick(decode(state), row, clock))
+}
+
+// Takes a packet from a client.
+#[no_mangle]
+pub extern "C" fn nidhaaguf_inbound(
+    state: State,
+    row: &mut [u32],
+    packet: &mut [u8],
+    clock: u32,
+) -> Reply
+    ensures { λ r. ⌜ replied r (now (row .exit)) (now (packet .exit)) ≡ exported state (packetOf Way.Inbound (decoded state) (now (row .entry)) (now (packet .entry)) clock) ⌝ }
+{
+    reply_of(state, inbound(decode(state), row, packet, clock))
+}
+
+// Takes a packet from a server.
+#[no_mangle]
+pub extern "C" fn nidhaaguf_outbound(
+    state: State,
+    row: &mut [u32],
+    packet: &mut [u8],
+    clock: u32,
+) -> Reply
+    ensures { λ r. ⌜ replied r (now (row .exit)) (now (packet .exit)) ≡ exported state (packetOf Way.Outbound (decoded state) (now (row .entry)) (now (packet .entry)) clock) ⌝ }
+{
+    reply_of(state, outbound(decode(state), row, packet, clock))
+}
