@@ -1,0 +1,104 @@
+//! A case: a first state and row, and a list of calls, all from one seed.
+
+use crate::call::Call;
+use crate::choose::{self, setup, Mix};
+use crate::rng::Rng;
+use crate::world::World;
+use crate::worlds::{breaks::BREAKS, junk, sound};
+
+/// What sort of case it is.
+#[derive(Clone, Copy, Debug, PartialEq, Eq)]
+pub enum Kind {
+    /// A list that begins with an accepted setup; the book goes along.
+    List,
+    /// A sound state that no list need have made.
+    Sound,
+    /// A sound state with one rule broken: a place in BREAKS.
+    Broken(usize),
+    /// Any state.
+    Junk,
+}
+
+/// A case that is being drawn.
+pub struct Case {
+    pub kind: Kind,
+    pub first: World,
+    rng: Rng,
+    /// Calls that are already drawn, the last one first.
+    ready: Vec<Call>,
+    /// How many are still to be drawn for the world as it then is.
+    to_draw: usize,
+}
+
+impl Case {
+    /// The case of this number.
+    pub fn new(seed: u64, number: u64) -> Case {
+        // two numbers into one, each of them scrambled
+        let mut rng = Rng::new(Rng::new(seed).number() ^ Rng::new(!number).number());
+        match rng.below(1_000) {
+            0..=69 => Case::list(rng),
+            70..=199 => Case::sound(rng),
+            200..=799 => Case::broken(rng),
+            _ => Case::junk(rng),
+        }
+    }
+
+    fn list(mut rng: Rng) -> Case {
+        // before the setup the state may be anything: setup doesn't judge it
+        let first = match rng.below(3) {
+            0 => World::new(),
+            1 => sound::world(&mut rng),
+            _ => junk::world(&mut rng),
+        };
+        let ready = vec![setup::good(&mut rng, &World::new())];
+        let to_draw = rng.one_of(&[20, 60, 150, 300, 600]);
+        Case { kind: Kind::List, first, rng, ready, to_draw }
+    }
+
+    fn sound(mut rng: Rng) -> Case {
+        let first = sound::world(&mut rng);
+        // from the walk as it was drawn; on a full table they meet 13
+        let openings = rng.below(9);
+        let ready = (0..openings).map(|_| choose::opening(&mut rng, &first)).collect();
+        let to_draw = rng.one_of(&[1, 5, 20, 60]);
+        Case { kind: Kind::Sound, first, rng, ready, to_draw }
+    }
+
+    fn broken(mut rng: Rng) -> Case {
+        loop {
+            let mut first = sound::world(&mut rng);
+            let calls = drawn(&mut rng, &first, 6);
+            let which = rng.below(BREAKS.len());
+            if (BREAKS[which].apply)(&mut rng, &mut first) {
+                return Case { kind: Kind::Broken(which), first, rng, ready: calls, to_draw: 0 };
+            }
+        }
+    }
+
+    fn junk(mut rng: Rng) -> Case {
+        let mut first = sound::world(&mut rng);
+        let ready = drawn(&mut rng, &first, 6);
+        match rng.permille(300) {
+            true => first = junk::world(&mut rng),
+            false => junk::stir(&mut rng, &mut first),
+        }
+        Case { kind: Kind::Junk, first, rng, ready, to_draw: 0 }
+    }
+
+    /// The next call, for the world as it is now.
+    pub fn next(&mut self, world: &World) -> Option<Call> {
+        if let Some(call) = self.ready.pop() {
+            return Some(call);
+        }
+        if self.to_draw == 0 {
+            return None;
+        }
+        self.to_draw -= 1;
+        Some(choose::call(&mut self.rng, world, Mix::Traffic))
+    }
+}
+
+/// Calls for a sound world, to be made on it when it is sound no more.
+fn drawn(rng: &mut Rng, world: &World, how_many: usize) -> Vec<Call> {
+    (0..how_many).map(|_| choose::call(rng, world, Mix::Even)).collect()
+}

@@ -1,0 +1,22 @@
+//! Compares libnidhaaguf.a with the reference, an independent second implementation, call by call.
+//!
+//! A case is a first state and row and a list of calls, all drawn from a seed. Every call is made on both with the same
+//! input; answer, state, row and packet must come out the same.
+
+#![forbid(unsafe_code)]
+
+pub mod call;
+pub mod case;
+pub mod choose;
+pub mod compare;
+pub mod edges;
+pub mod lent;
+pub mod options;
+pub mod report;
+pub mod rng;
+pub mod run;
+pub mod shorten;
+pub mod sides;
+pub mod tally;
+pub mod world;
+pub mod worlds;

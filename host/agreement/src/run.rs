@@ -1,0 +1,108 @@
+//! Running cases.
+
+use crate::call::Call;
+use crate::case::{Case, Kind};
+use crate::compare;
+use crate::edges::{Edges, Moment};
+use crate::sides::{Reference, Side};
+use crate::tally::Tally;
+use crate::world::World;
+use crate::worlds::breaks::BREAKS;
+use reference::book::Book;
+
+/// What a run has met.
+#[derive(Clone, Debug, Default)]
+pub struct Met {
+    pub cases: u64,
+    pub tally: Tally,
+    pub edges: Edges,
+    /// How many times 15 was answered, by the rule that was broken.
+    pub broken: [usize; BREAKS.len()],
+}
+
+/// A case on which the sides don't agree, up to the call where they part.
+#[derive(Debug)]
+pub struct Failure {
+    pub seed: u64,
+    pub number: u64,
+    pub kind: Kind,
+    pub first: World,
+    pub calls: Vec<Call>,
+    pub complaint: String,
+}
+
+/// Runs cases from 0 on until so many calls are made.
+pub fn run(side: &dyn Side, seed: u64, calls: usize) -> Result<Met, Box<Failure>> {
+    let mut met = Met::default();
+    while met.tally.calls() < calls {
+        run_case(side, seed, met.cases, &mut met)?;
+        met.cases += 1;
+    }
+    Ok(met)
+}
+
+/// Names the case when one of the sides panics in it.
+struct Naming(u64, u64);
+
+impl Drop for Naming {
+    fn drop(&mut self) {
+        if std::thread::panicking() {
+            eprintln!("a panic in --seed {} --case {}", self.0, self.1);
+        }
+    }
+}
+
+/// Runs one case.
+pub fn run_case(
+    side: &dyn Side,
+    seed: u64,
+    number: u64,
+    met: &mut Met,
+) -> Result<(), Box<Failure>> {
+    let _naming = Naming(seed, number);
+    let mut case = Case::new(seed, number);
+    let mut world = case.first.clone();
+    let mut book = book_for(case.kind);
+    let mut calls = Vec::new();
+    while let Some(call) = case.next(&world) {
+        calls.push(call);
+        let call = &calls[calls.len() - 1];
+        let stepped = match compare::step(side, call, &world, book.as_mut()) {
+            Ok(stepped) => stepped,
+            Err(complaint) => {
+                let (kind, first) = (case.kind, case.first);
+                return Err(Box::new(Failure { seed, number, kind, first, calls, complaint }));
+            }
+        };
+        let told = stepped.told;
+        met.tally.add(call, told);
+        met.edges.add(&Moment { before: &world, call, told, left: &stepped.packet });
+        if let (Kind::Broken(which), 15) = (case.kind, told.refusal) {
+            met.broken[which] += 1;
+        }
+        world = stepped.world;
+    }
+    Ok(())
+}
+
+/// The book goes along with lists that begin with an accepted setup.
+pub fn book_for(kind: Kind) -> Option<Book> {
+    (kind == Kind::List).then(Book::new)
+}
+
+/// All calls of a case. They are drawn along the reference, so no library can change them.
+pub fn calls_of(seed: u64, number: u64) -> (Kind, World, Vec<Call>) {
+    let mut case = Case::new(seed, number);
+    let mut world = case.first.clone();
+    let mut calls = Vec::new();
+    while let Some(call) = case.next(&world) {
+        let mut row = call.row(&world);
+        let mut packet = call.packet().to_vec();
+        let told = Reference.make(&call, &mut world.state, &mut row, &mut packet);
+        if call.keeps_row(told) {
+            world.row = row;
+        }
+        calls.push(call);
+    }
+    (case.kind, case.first, calls)
+}

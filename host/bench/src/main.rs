@@ -1,0 +1,51 @@
+//! `bench SIDE CALL SLOTS SERVERS REPS`: makes a sound state with all but one slot used, and repeats one call on it.
+//!
+//! SIDE is library, reference or plain; CALL is kept, opening or tick. Count two runs with different REPS under callgrind:
+//! their difference is the calls alone (the script `bench` at the top of the repository does that). With `--time` it
+//! prints nanoseconds a call instead.
+
+mod plain;
+mod scene;
+
+use scene::Scene;
+use std::time::Instant;
+
+fn main() {
+    let words: Vec<String> = std::env::args().skip(1).collect();
+    let timed = words.iter().any(|word| word == "--time");
+    let words: Vec<&str> =
+        words.iter().map(String::as_str).filter(|word| *word != "--time").collect();
+    let [side, call, slots, servers, reps] = words[..] else {
+        eprintln!(
+            "usage: bench library|reference|plain kept|opening|tick SLOTS SERVERS REPS [--time]"
+        );
+        std::process::exit(2);
+    };
+    let number = |text: &str| text.parse::<usize>().expect("a number");
+    let scene = Scene::new(number(slots), number(servers));
+    let reps = number(reps);
+    let begin = Instant::now();
+    let told = run(&scene, side, call, reps);
+    let each = begin.elapsed().as_nanos() as f64 / reps.max(1) as f64;
+    match timed {
+        true => println!("{each:.0}"),
+        false => println!("{told}"),
+    }
+}
+
+/// The call, repeated on the same state; what it answered is printed, so that nothing is left out as unused.
+fn run(scene: &Scene, side: &str, call: &str, reps: usize) -> u64 {
+    let one: fn(&mut Scene, &str) -> u64 = match side {
+        "library" => scene::library,
+        "reference" => scene::reference,
+        "plain" => scene::plain,
+        _ => panic!("no such side: {side}"),
+    };
+    let mut scratch = scene.clone();
+    let mut told = 0;
+    for _ in 0..reps {
+        scratch.again(scene);
+        told += one(&mut scratch, call);
+    }
+    told
+}

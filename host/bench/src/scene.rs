@@ -1,0 +1,153 @@
+//! A sound state over a nearly full table, and one call on it by each side.
+
+use crate::plain;
+use nidhaaguf::raw;
+use reference::packets;
+
+const VIRTUAL: u32 = 0xC000020A;
+const CLOCK: u32 = 1000;
+
+/// State, row and packet, in the library's layout and in the second implementation's.
+#[derive(Clone)]
+pub struct Scene {
+    state: raw::State,
+    twin: reference::State,
+    row: Vec<u32>,
+    packet: Vec<u8>,
+    kept: Vec<u8>,
+    opening: Vec<u8>,
+}
+
+impl Scene {
+    /// All slots used but the last, by clients of their own; of one slot, it is used.
+    pub fn new(slots: usize, servers: usize) -> Scene {
+        let mut state = raw::State::default();
+        state.service = raw::Service {
+            address: VIRTUAL,
+            port: 5432,
+            protocol: 6,
+            scheduler: 1,
+            servers: servers as u32,
+        };
+        state.clock = CLOCK;
+        state.place = servers as u64;
+        for (number, server) in state.servers[..servers].iter_mut().enumerate() {
+            *server = raw::Server {
+                address: 0x0A010001 + number as u32,
+                port: 6432,
+                weight: 1,
+                count: 0,
+            };
+        }
+        let mut row = vec![0; slots * raw::WORDS_PER_SLOT];
+        let used = (slots - 1).max(1);
+        for slot in 0..used {
+            let server = slot % servers;
+            row[5 * slot..5 * slot + 5].copy_from_slice(&[
+                1,
+                client(slot),
+                40000,
+                server as u32,
+                CLOCK,
+            ]);
+            state.servers[server].count += 1;
+        }
+        let packet_of = |address: u32, flags: u8| {
+            packets::tcp((address, 40000), (VIRTUAL, 5432), flags).build()
+        };
+        let (kept, opening) = (packet_of(client(used - 1), 16), packet_of(0x0B000001, 2));
+        Scene { twin: twin_of(&state), state, row, packet: kept.clone(), kept, opening }
+    }
+
+    /// As it was, for another call.
+    pub fn again(&mut self, first: &Scene) {
+        self.state.clock = first.state.clock;
+        self.twin.clock = first.twin.clock;
+    }
+
+    fn set_packet(&mut self, call: &str) {
+        let from = if call == "opening" { &self.opening } else { &self.kept };
+        self.packet.copy_from_slice(from);
+    }
+}
+
+fn client(slot: usize) -> u32 {
+    0x0A000001 + slot as u32
+}
+
+fn twin_of(state: &raw::State) -> reference::State {
+    let mut twin = reference::State::new();
+    let service = state.service;
+    twin.service = reference::Service {
+        address: service.address,
+        port: service.port,
+        protocol: service.protocol,
+        scheduler: service.scheduler,
+        servers: service.servers,
+    };
+    for (to, from) in twin.servers.iter_mut().zip(&state.servers) {
+        *to = reference::Server {
+            address: from.address,
+            port: from.port,
+            weight: from.weight,
+            count: from.count,
+        };
+    }
+    twin.walk = reference::Walk { place: state.place as i64 - 1, level: state.level };
+    twin.clock = state.clock;
+    twin
+}
+
+/// The state of an opening is thrown away, and its slot freed, so that each call meets the same table.
+fn free_last(row: &mut [u32]) {
+    let last = row.len() - raw::WORDS_PER_SLOT;
+    row[last..].fill(0);
+}
+
+pub fn library(scene: &mut Scene, call: &str) -> u64 {
+    scene.set_packet(call);
+    let answer = match call {
+        "tick" => raw::tick(scene.state, &mut scene.row, CLOCK),
+        _ => raw::inbound(scene.state, &mut scene.row, &mut scene.packet, CLOCK),
+    };
+    if call == "opening" && answer.refusal == 0 {
+        free_last(&mut scene.row);
+    }
+    u64::from(answer.refusal) * 100 + u64::from(answer.change)
+}
+
+pub fn reference(scene: &mut Scene, call: &str) -> u64 {
+    scene.set_packet(call);
+    let mut state = scene.twin;
+    let answer = match call {
+        "tick" => reference::tick(&mut state, &mut scene.row, CLOCK),
+        _ => reference::inbound(&mut state, &mut scene.row, &mut scene.packet, CLOCK),
+    };
+    if call == "opening" && matches!(answer, reference::Answer::Passed(..)) {
+        free_last(&mut scene.row);
+    }
+    match answer {
+        reference::Answer::Refused(number) => u64::from(number) * 100,
+        reference::Answer::Passed(_, reference::Change::Opened) => 1,
+        reference::Answer::Passed(..) => 2,
+        _ => 0,
+    }
+}
+
+pub fn plain(scene: &mut Scene, call: &str) -> u64 {
+    scene.set_packet(call);
+    let mut servers = scene.twin.servers;
+    let service = scene.twin.service;
+    let n = service.servers as usize;
+    let sound = plain::is_sound(&servers, n, &scene.row, CLOCK);
+    let removed = plain::expire(&mut scene.row, &mut servers, CLOCK);
+    if call == "tick" {
+        return u64::from(sound) * 1000 + u64::from(removed);
+    }
+    let wanted = if call == "opening" { 0x0B000001 } else { plain::address(&scene.packet, 12) };
+    let found = plain::find(&scene.row, wanted, 40000).or_else(|| plain::find_free(&scene.row));
+    let Some(slot) = found else { return 1300 };
+    let server = servers[scene.row[5 * slot + 3] as usize % n];
+    plain::redirect(&mut scene.packet, server.address, server.port);
+    u64::from(sound) + slot as u64 + u64::from(scene.packet[16])
+}

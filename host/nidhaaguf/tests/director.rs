@@ -1,0 +1,110 @@
+//! The wrapper: what goes in and comes out of the library through it.
+
+use nidhaaguf::{raw, Change, Director, Passed, Protocol, Refusal, Scheduler, Settings};
+
+const SYN: [u8; 40] = [
+    0x45, 0x00, 0x00, 0x28, 0x00, 0x00, 0x40, 0x00, 0x40, 0x06, 0x6E, 0xC5, 10, 0, 0, 1, 192, 0, 2,
+    10, 0x9C, 0x40, 0x15, 0x38, 0, 0, 0, 0, 0, 0, 0, 0, 0x50, 0x02, 0x00, 0x00, 0x32, 0x5F, 0, 0,
+];
+
+fn settings(servers: u16) -> Settings {
+    let service = "192.0.2.10:5432".parse().unwrap();
+    let empty = Settings::new(service, Protocol::Tcp, Scheduler::RoundRobin);
+    (0..servers).fold(empty, |settings, number| {
+        settings.server(format!("10.1.0.5:{}", 6432 + number).parse().unwrap(), 1)
+    })
+}
+
+#[test]
+fn setup_refusals() {
+    assert!(Director::set_up(&settings(1), 1).is_ok());
+    assert!(Director::set_up(&settings(64), 4_096).is_ok());
+    for servers in [0, 65, 300] {
+        assert_eq!(Director::set_up(&settings(servers), 1), Err(Refusal::Sizes));
+    }
+    for slots in [0, 4_097, usize::MAX] {
+        assert_eq!(Director::set_up(&settings(1), slots), Err(Refusal::Sizes));
+    }
+    let mut unset = settings(2);
+    unset.service.set_port(0);
+    assert_eq!(Director::set_up(&unset, 1), Err(Refusal::Service));
+    let mut unset = settings(2);
+    unset.servers[1].at.set_port(0);
+    assert_eq!(Director::set_up(&unset, 1), Err(Refusal::ServerUnset));
+    let mut repeated = settings(2);
+    repeated.servers[1] = repeated.servers[0];
+    assert_eq!(Director::set_up(&repeated, 1), Err(Refusal::ServerRepeated));
+}
+
+#[test]
+fn a_connection_from_its_syn_to_its_reset() {
+    let mut director = Director::set_up(&settings(2), 1).unwrap();
+    assert_eq!((director.slots(), director.clock()), (1, 0));
+    let mut packet = SYN;
+    let opened = Passed { server: 0, change: Change::Opened };
+    assert_eq!(director.inbound(&mut packet, 7), Ok(opened));
+    assert_eq!((director.clock(), director.count(0)), (7, Ok(1)));
+
+    // the same bytes the other way: from the server to the client
+    let mut back = packet;
+    back[12..16].copy_from_slice(&packet[16..20]);
+    back[16..20].copy_from_slice(&packet[12..16]);
+    back[20..22].copy_from_slice(&packet[22..24]);
+    back[22..24].copy_from_slice(&packet[20..22]);
+    let kept = Passed { server: 0, change: Change::Kept };
+    assert_eq!(director.outbound(&mut back, 8), Ok(kept));
+    assert_eq!(back[12..16], [192, 0, 2, 10]);
+    assert_eq!(back[20..22], 5432_u16.to_be_bytes());
+    // it came from the virtual end as the client's packet went to it: the same sums
+    assert_eq!((&back[10..12], &back[36..38]), (&SYN[10..12], &SYN[36..38]));
+
+    let mut reset = SYN;
+    reset[33] = 0x04;
+    let ended = Passed { server: 0, change: Change::Ended };
+    assert_eq!(director.inbound(&mut reset, 9), Ok(ended));
+    assert_eq!(director.count(0), Ok(0));
+}
+
+#[test]
+fn refusals_leave_the_packet_and_some_take_the_clock() {
+    let mut director = Director::set_up(&settings(1), 1).unwrap();
+    let mut fin = SYN;
+    fin[33] = 0x11;
+    let before = fin;
+    assert_eq!(director.inbound(&mut fin, 5), Err(Refusal::NoConnection));
+    assert_eq!((fin, director.clock()), (before, 5));
+    assert_eq!(director.inbound(&mut [], 6), Err(Refusal::MalformedHeader));
+    assert_eq!(director.inbound(&mut fin[..39], 6), Err(Refusal::MalformedHeader));
+    assert_eq!(director.outbound(&mut fin, 6), Err(Refusal::OtherEndpoint));
+    assert_eq!(director.clock(), 5);
+    director.set_weight(0, 0).unwrap();
+    assert_eq!(director.inbound(&mut SYN.clone(), 6), Err(Refusal::NoWeight));
+    assert_eq!(director.inbound(&mut SYN.clone(), 5), Err(Refusal::EarlierClock));
+}
+
+#[test]
+fn servers_that_are_not_there() {
+    let mut director = Director::set_up(&settings(3), 1).unwrap();
+    for server in [3, 64, u32::MAX as usize, 1 << 32, usize::MAX] {
+        assert_eq!(director.set_weight(server, 1), Err(Refusal::NoServer));
+        assert_eq!(director.count(server), Err(Refusal::NoServer));
+    }
+}
+
+#[test]
+fn refusals_by_number() {
+    for (place, refusal) in Refusal::ALL.into_iter().enumerate() {
+        assert_eq!(refusal.number() as usize, place + 1);
+        assert_eq!(Refusal::of_number(refusal.number()), Some(refusal));
+        assert!(refusal.to_string().ends_with(&format!("({})", place + 1)));
+    }
+    assert_eq!((Refusal::of_number(0), Refusal::of_number(16)), (None, None));
+}
+
+#[test]
+fn the_raw_layer_takes_any_state() {
+    let state = raw::State { place: u64::MAX, ..raw::State::default() };
+    let answer = raw::count(state, &[], 0);
+    assert_eq!((answer.refusal, answer.number, answer.change), (15, 0, 0));
+    assert_eq!(answer.state, state);
+}

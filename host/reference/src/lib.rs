@@ -1,0 +1,24 @@
+//! A packet director written from 01-scope.md alone, as a second opinion.
+//!
+//! Simple rather than fast: every call judges the whole state first.
+
+#![forbid(unsafe_code)]
+
+pub mod book;
+pub mod checksum;
+pub mod connection;
+pub mod data;
+pub mod director;
+pub mod header;
+pub mod packets;
+pub mod refusal;
+pub mod rewrite;
+pub mod scheduler;
+pub mod segment;
+pub mod settings;
+pub mod soundness;
+pub mod table;
+
+pub use data::{Answer, Change, Server, Service, State, Walk, PLACES};
+pub use director::{count, inbound, outbound, set_up, set_weight, tick};
+pub use soundness::is_sound;

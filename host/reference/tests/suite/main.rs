@@ -1,0 +1,15 @@
+//! One test program; each module holds one subject of 01-scope.md.
+
+mod book;
+mod checksums;
+mod connections;
+mod examples;
+mod idle;
+mod order;
+mod packet_refusals;
+mod random;
+mod rows;
+mod schedulers;
+mod setup;
+mod support;
+mod unsound;

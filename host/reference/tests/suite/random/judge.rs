@@ -1,0 +1,183 @@
+//! What a call may change, judged beside the book: state, row and packet before and after.
+
+use super::choose::Deed;
+use crate::support::Director;
+use reference::data::UDP;
+use reference::packets;
+use reference::*;
+
+/// Judges one call's effects. `left` is the packet as it left.
+pub fn effects(before: &Director, after: &Director, deed: &Deed, answer: Answer, left: &[u8]) {
+    match (answer, deed) {
+        (Answer::Refused(12..=14), Deed::Inbound { clock, .. } | Deed::Outbound { clock, .. }) => {
+            assert_eq!(left, deed.packet());
+            let ticked = ticked(before, *clock);
+            assert_eq!(after, &ticked);
+            full_or_weightless(&ticked, answer);
+        }
+        (Answer::Refused(_), _) => {
+            assert_eq!(left, deed.packet());
+            assert_eq!(after, before);
+        }
+        (Answer::Passed(server, change), Deed::Inbound { packet, clock }) => {
+            let end = after.state.servers[server as usize];
+            rewritten(packet, left, 16, 2, (end.address, end.port));
+            moved(&ticked(before, *clock), after, server, change);
+        }
+        (Answer::Passed(server, change), Deed::Outbound { packet, clock }) => {
+            let service = after.state.service;
+            rewritten(packet, left, 12, 0, (service.address, service.port));
+            assert_ne!(change, Change::Opened);
+            moved(&ticked(before, *clock), after, server, change);
+        }
+        (Answer::Number(removed), Deed::Tick { clock }) => {
+            assert_eq!(after.state.clock, *clock);
+            assert_eq!(after.state.walk, before.state.walk);
+            assert_eq!(total(before) - total(after), removed);
+        }
+        (Answer::Number(_), _) => assert_eq!(after, before),
+        (Answer::Done, Deed::SetWeight { number, weight }) => {
+            weighed(before, after, *number as usize, *weight)
+        }
+        (Answer::Done, _) => assert_eq!((total(after), after.state.clock), (0, 0)),
+        other => panic!("{other:?}"),
+    }
+}
+
+fn total(director: &Director) -> u32 {
+    director.counts().iter().sum()
+}
+
+/// What the clock alone does.
+fn ticked(before: &Director, clock: u32) -> Director {
+    let mut ticked = before.clone();
+    assert!(matches!(ticked.tick(clock), Answer::Number(_)));
+    ticked
+}
+
+fn full_or_weightless(ticked: &Director, answer: Answer) {
+    let full = ticked.row.chunks(5).all(|slot| slot[0] != 0);
+    let weightless = ticked.state.used_servers().iter().all(|server| server.weight == 0);
+    match answer {
+        Answer::Refused(13) => assert!(full),
+        Answer::Refused(14) => assert!(!full && weightless),
+        _ => {}
+    }
+}
+
+/// Only one address, one port and two checksums may differ, and they must be right.
+fn rewritten(came: &[u8], left: &[u8], address_at: usize, port_at: usize, end: (u32, u16)) {
+    let header = usize::from(came[0] & 15) * 4;
+    let udp = came[9] == UDP;
+    let sum_at = header + if udp { 6 } else { 16 };
+    let port_at = header + port_at;
+    let mut want = came.to_vec();
+    want[address_at..address_at + 4].copy_from_slice(&end.0.to_be_bytes());
+    want[port_at..port_at + 2].copy_from_slice(&end.1.to_be_bytes());
+    want[10..12].copy_from_slice(&left[10..12]);
+    want[sum_at..sum_at + 2].copy_from_slice(&left[sum_at..sum_at + 2]);
+    assert_eq!(left, want);
+    assert!(packets::header_verifies(left));
+    let no_sum = udp && came[sum_at..sum_at + 2] == [0, 0];
+    if udp {
+        assert_eq!(left[sum_at..sum_at + 2] == [0, 0], no_sum);
+    }
+    if !no_sum {
+        assert_eq!(packets::transport_verifies(left), packets::transport_verifies(came));
+    }
+}
+
+/// From the ticked director to the one after: exactly one slot differs, as the change says.
+fn moved(ticked: &Director, after: &Director, server: u32, change: Change) {
+    let mut want = ticked.clone();
+    let slots = ticked.row.len() / 5;
+    let free = (0..slots).find(|&slot| ticked.slot(slot)[0] == 0);
+    let touched = (0..slots).find(|&slot| ticked.slot(slot) != after.slot(slot));
+    match (change, touched) {
+        (Change::Opened, Some(slot)) => {
+            assert_eq!(touched, free);
+            let words = after.slot(slot);
+            assert_eq!((words[0], words[3], words[4]), (1, server, ticked.state.clock));
+            want.place(slot, words);
+            let (picked, walk) = pick(&ticked.state);
+            assert_eq!(picked, server as usize);
+            want.state.walk = walk;
+        }
+        (Change::Ended, Some(slot)) => {
+            assert_eq!(ticked.slot(slot)[3], server);
+            want.row[slot * 5..slot * 5 + 5].fill(0);
+            want.state.servers[server as usize].count -= 1;
+        }
+        (Change::Kept, Some(slot)) => {
+            assert_eq!(ticked.slot(slot)[3], server);
+            want.row[slot * 5] = after.row[slot * 5];
+            want.row[slot * 5 + 4] = ticked.state.clock;
+        }
+        (Change::Kept, None) => {}
+        other => panic!("{other:?}"),
+    }
+    assert_eq!(after, &want);
+}
+
+fn weighed(before: &Director, after: &Director, number: usize, weight: u16) {
+    let mut want = before.clone();
+    want.state.servers[number].weight = weight;
+    let changed = before.state.servers[number].weight != weight;
+    if changed && before.state.service.scheduler == 2 {
+        want.state.walk = Walk { place: -1, level: 0 };
+    }
+    assert_eq!(after, &want);
+}
+
+/// "Who is picked" once more, as literally as it is written.
+fn pick(state: &State) -> (usize, Walk) {
+    let servers = state.used_servers();
+    match state.service.scheduler {
+        1 => {
+            let mut i = state.walk.place as usize;
+            loop {
+                i = (i + 1) % servers.len();
+                if servers[i].weight > 0 {
+                    return (i, Walk { place: i as i64, level: 0 });
+                }
+            }
+        }
+        2 => weighted_walk(servers, state.walk),
+        3 => (lowest(servers, |s| (u64::from(s.count), 1)), state.walk),
+        _ => (lowest(servers, |s| (u64::from(s.count), u64::from(s.weight))), state.walk),
+    }
+}
+
+fn weighted_walk(servers: &[Server], walk: Walk) -> (usize, Walk) {
+    let weights: Vec<i64> = servers.iter().map(|s| i64::from(s.weight)).collect();
+    let largest = *weights.iter().max().unwrap();
+    // the greatest number that divides every weight, found by trying
+    let divisor = (1..=largest).rev().find(|d| weights.iter().all(|w| w % d == 0)).unwrap();
+    let (mut i, mut cw) = (walk.place, i64::from(walk.level));
+    loop {
+        i = (i + 1) % weights.len() as i64;
+        if i == 0 {
+            cw -= divisor;
+            if cw <= 0 {
+                cw = largest;
+            }
+        }
+        if weights[i as usize] >= cw {
+            return (i as usize, Walk { place: i, level: cw as u16 });
+        }
+    }
+}
+
+/// The lowest number that no other server with a weight beats.
+fn lowest(servers: &[Server], share: impl Fn(&Server) -> (u64, u64)) -> usize {
+    let beats = |a: &Server, b: &Server| {
+        let ((count_a, part_a), (count_b, part_b)) = (share(a), share(b));
+        count_a * part_b < count_b * part_a
+    };
+    let weighty = |server: &&Server| server.weight > 0;
+    (0..servers.len())
+        .find(|&n| {
+            servers[n].weight > 0 && !servers.iter().filter(weighty).any(|s| beats(s, &servers[n]))
+        })
+        .unwrap()
+}
