@@ -21,16 +21,15 @@ pub struct Scene {
 impl Scene {
     /// All slots used but the last, by clients of their own; of one slot, it is used.
     pub fn new(slots: usize, servers: usize) -> Scene {
-        let mut state = raw::State::default();
-        state.service = raw::Service {
+        let service = raw::Service {
             address: VIRTUAL,
             port: 5432,
             protocol: 6,
             scheduler: 1,
             servers: servers as u32,
         };
-        state.clock = CLOCK;
-        state.place = servers as u64;
+        let mut state =
+            raw::State { service, clock: CLOCK, place: servers as u64, ..raw::State::default() };
         for (number, server) in state.servers[..servers].iter_mut().enumerate() {
             *server = raw::Server {
                 address: 0x0A010001 + number as u32,
