@@ -40,6 +40,13 @@ chosen : (b : Bool) (v : Verdict) (why : Refusal) → isAccepted (cond b v (Verd
 chosen true v why e = (refl, e)
 chosen false v why e = absurd (false≢true e)
 
+-- sizes that refusal 1 does not name
+pub sizes-within : (n : ℕ) (row : List ℕ) → sizesRight n row ≡ true → (1 ≤ n) × (n ≤ 64) × (isRow row ≡ true)
+sizes-within n row e =
+    let (numbers, whole) = both (leb 1 n && leb n 64) (isRow row) e in
+    let (some, most) = both (leb 1 n) (leb n 64) numbers in
+    (leb-true 1 n some, leb-true n 64 most, whole)
+
 pub accepted : (g : Service) (servers : List Server) (row : List ℕ) → isAccepted (settingsJudged g servers row) ≡ true → Accepted g servers row
 unfolding settingsJudged
 accepted g servers row e =
@@ -48,9 +55,8 @@ accepted g servers row e =
     let (right, e₂) = chosen (serviceRight g) _ _ e₁ in
     let (set, e₃) = chosen (allKeep Rule.Set servers n) _ _ e₂ in
     let (distinct, e₄) = chosen (allKeep Rule.New servers n) _ _ e₃ in
-    let (numbers, whole) = both (leb 1 n && leb n 64) (isRow row) sizes in
-    let (some, most) = both (leb 1 n) (leb n 64) numbers in
-    record { some = leb-true 1 n some; most = leb-true n 64 most; whole = whole; right = right; set = set; distinct = distinct }
+    let (some, most, whole) = sizes-within n row sizes in
+    record { some = some; most = most; whole = whole; right = right; set = set; distinct = distinct }
 
 pub judged : (g : Service) (servers : List Server) (row : List ℕ) → settingsJudged g servers row ≡ Verdict.Accepted → Accepted g servers row
 judged g servers row e = accepted g servers row (ap isAccepted e)

@@ -10,6 +10,7 @@ use servers::Found;
 use servers::ServerNo;
 use servers::rules::number_of;
 ghost use mathlib.Core.Path.{_≡_};
+ghost use Prim.Native.Nat.{_≤_};
 ghost use Rattle.director.specs.Segment.{fromClient, fromServer, segmentRead};
 
 // Which way a packet goes: from a client, or from a server.
@@ -60,6 +61,7 @@ fn from_client(service: Service, p: Packet) -> Seen
 
 // An outbound packet: its source is a server's address and port, or refusal 10.
 fn from_server(director: Director, p: Packet) -> Seen
+    requires { ⌜ director .service .servers ≤ 64 ⌝ }
     ensures { λ r. ⌜ r ≡ fromServer (director .service) (director .servers) p ⌝ }
 {
     let service = director.service;
@@ -79,6 +81,7 @@ fn from_server(director: Director, p: Packet) -> Seen
 
 // What a packet says, or the first of refusals 6 to 10.
 pub fn read_segment(way: Way, director: Director, packet: &[u8]) -> Seen
+    requires { ⌜ director .service .servers ≤ 64 ⌝ }
     ensures { λ r. ⌜ r ≡ segmentRead way (director .service) (director .servers) (now (packet .entry)) ⌝ }
 {
     let service = director.service;

@@ -1,10 +1,12 @@
-// What setup asks of the servers (refusals 3 and 4), and which server is at an address and port.
+// What setup asks of the servers (refusals 3 and 4), and which server is at an address and port. Each loop reads the
+// array in its own function: a call that takes the array by value copies it, and there would be one for each server.
 use crate::Found;
 use crate::Server;
 use crate::ServerNo;
-use crate::server_at;
 ghost use mathlib.Core.Path.{_≡_};
-ghost use Rattle.servers.specs.Rules.{isSet, isAt, numberOf, isNew, isZero, keeps, allKeep};
+ghost use Prim.Native.Nat.{_≤_};
+ghost use Rattle.servers.specs.declared.rules.Rule.{Rule};
+ghost use Rattle.servers.specs.Rules.{isSet, isAt, numberOf, isZero, allKeep};
 
 // What may be asked of every server.
 pub enum Rule {
@@ -39,51 +41,72 @@ fn is_at(server: Server, address: u32, port: u16) -> bool
 
 // The lowest of the first n servers that is at an address and port.
 pub fn number_of(servers: [Server; 64], n: u32, address: u32, port: u16) -> Found
+    requires { ⌜ n ≤ 64 ⌝ }
     ensures { λ r. ⌜ r ≡ numberOf servers address port n ⌝ }
 {
     for i in 0..n {
-        if is_at(server_at(servers, ServerNo(i)), address, port) {
+        let at = i as usize;
+        if is_at(servers[at], address, port) {
             return Found::At(ServerNo(i));
         }
     }
     Found::Nobody
 }
 
-// Whether no lower server has the address and port of server `no`.
-fn is_new(servers: [Server; 64], no: ServerNo) -> bool
-    ensures { λ r. ⌜ r ≡ isNew servers (no .0) ⌝ }
-{
-    let server = server_at(servers, no);
-    match number_of(servers, no.0, server.address, server.port) {
-        Found::At(_) => false,
-        Found::Nobody => true,
-    }
-}
-
-// Whether server `no` keeps a rule.
-fn keeps_rule(rule: Rule, servers: [Server; 64], no: ServerNo) -> bool
-    ensures { λ r. ⌜ r ≡ keeps rule servers (no .0) ⌝ }
-{
-    match rule {
-        Rule::Set => is_set(server_at(servers, no)),
-        Rule::New => is_new(servers, no),
-        Rule::UnusedFrom(n) => {
-            if no.0 < n {
-                return true;
-            }
-            is_zero(server_at(servers, no))
-        }
-    }
-}
-
-// Whether each of the first n servers keeps a rule.
-pub fn all_keep(rule: Rule, servers: [Server; 64], n: u32) -> bool
-    ensures { λ r. ⌜ r ≡ allKeep rule servers n ⌝ }
+// Whether none of the first n servers has address or port 0.
+fn are_set(servers: [Server; 64], n: u32) -> bool
+    requires { ⌜ n ≤ 64 ⌝ }
+    ensures { λ r. ⌜ r ≡ allKeep Rule.Set servers n ⌝ }
 {
     for i in 0..n {
-        if !keeps_rule(rule, servers, ServerNo(i)) {
+        let at = i as usize;
+        if !is_set(servers[at]) {
             return false;
         }
     }
     true
+}
+
+// Whether none of the first n servers has the address and port of a lower one.
+fn are_new(servers: [Server; 64], n: u32) -> bool
+    requires { ⌜ n ≤ 64 ⌝ }
+    ensures { λ r. ⌜ r ≡ allKeep Rule.New servers n ⌝ }
+{
+    for i in 0..n {
+        let at = i as usize;
+        let server = servers[at];
+        for j in 0..i {
+            let below = j as usize;
+            if is_at(servers[below], server.address, server.port) {
+                return false;
+            }
+        }
+    }
+    true
+}
+
+// Whether the places from the first unused one to n are zeros.
+fn are_unused(servers: [Server; 64], first: u32, n: u32) -> bool
+    requires { ⌜ n ≤ 64 ⌝ }
+    ensures { λ r. ⌜ r ≡ allKeep (Rule.UnusedFrom first) servers n ⌝ }
+{
+    for i in first..n {
+        let at = i as usize;
+        if !is_zero(servers[at]) {
+            return false;
+        }
+    }
+    true
+}
+
+// Whether each of the first n servers keeps a rule.
+pub fn all_keep(rule: Rule, servers: [Server; 64], n: u32) -> bool
+    requires { ⌜ n ≤ 64 ⌝ }
+    ensures { λ r. ⌜ r ≡ allKeep rule servers n ⌝ }
+{
+    match rule {
+        Rule::Set => are_set(servers, n),
+        Rule::New => are_new(servers, n),
+        Rule::UnusedFrom(first) => are_unused(servers, first, n),
+    }
 }

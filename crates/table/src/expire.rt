@@ -1,7 +1,7 @@
 // Idle limits, and the removal of idle connections.
 ghost use mathlib.Core.Path.{_≡_};
 ghost use mathlib.Core.Bool.{true};
-ghost use Prim.Native.Nat.{_<_, _≤_, _/_};
+ghost use Prim.Native.Nat.{_<_, _≤_, _-_, _/_};
 ghost use lib.ListN.{length};
 ghost use Rattle.lists.specs.Tests.{countOf};
 ghost use Rattle.table.specs.Slots.{wordsPerSlot, slots, words, slotAt};
@@ -32,17 +32,35 @@ pub fn idle_limit(protocol: u8, phase: u32) -> u32
     }
 }
 
-// Whether slot `k`, which was not seen after the clock, holds an idle connection.
-fn is_idle_at(row: &[u32], k: SlotNo, protocol: u8, clock: u32) -> bool
-    requires { ⌜ (k .0 < length (now row) / wordsPerSlot) × (slotAt (now row) (k .0) .seen ≤ clock) ⌝ }
+// The shortest idle limit in seconds.
+const SHORTEST: u32 = 120;
+
+// The clock less the shortest idle limit, or 0.
+fn recent_after(clock: u32) -> u32
+    ensures { λ r. ⌜ r ≡ clock - 120 ⌝ }
+{
+    if clock < SHORTEST {
+        return 0;
+    }
+    clock - SHORTEST
+}
+
+// Whether slot `k`, which was not seen after the clock, holds an idle connection. Most slots of a busy table were seen
+// within the shortest limit, so that is asked first: one comparison with `recent`, which the loop over the slots keeps.
+fn is_idle_at(row: &[u32], k: SlotNo, protocol: u8, clock: u32, recent: u32) -> bool
+    requires { ⌜ (k .0 < length (now row) / wordsPerSlot) × (slotAt (now row) (k .0) .seen ≤ clock) × (recent ≡ clock - 120) ⌝ }
     ensures { λ r. ⌜ r ≡ isIdle protocol clock (slotAt (now (row .entry)) (k .0)) ⌝ }
 {
     let at = WORDS * k.0;
+    let seen = row[at + 4];
+    if recent < seen {
+        return false;
+    }
     let phase = row[at];
     if phase == 0 {
         return false;
     }
-    idle_limit(protocol, phase) <= clock - row[at + 4]
+    idle_limit(protocol, phase) <= clock - seen
 }
 
 // Every idle connection is removed from the row, and from its server's count.
@@ -55,8 +73,9 @@ pub fn expire(row: &mut [u32], servers: [Server; 64], protocol: u8, n: u32, cloc
     let end = row.len() / WORDS;
     let mut after = servers;
     let mut removed = 0;
+    let recent = recent_after(clock);
     for k in 0..end {
-        if is_idle_at(row, SlotNo(k), protocol, clock) {
+        if is_idle_at(row, SlotNo(k), protocol, clock, recent) {
             let no = server_no_at(row, SlotNo(k));
             let j = no.0 as usize;
             after[j].count -= 1;

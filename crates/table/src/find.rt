@@ -14,16 +14,17 @@ pub enum Found {
     Nothing,
 }
 
-// Whether slot `k` is a used slot of this client. Most slots have another address, so it is compared first.
+// Whether slot `k` is a used slot of this client. A client host's connections share its address but not their ports, so the
+// port is compared first: most slots need no second comparison.
 fn of_client_at(row: &[u32], k: SlotNo, address: u32, port: u16) -> bool
     requires { ⌜ k .0 < length (now row) / wordsPerSlot ⌝ }
     ensures { λ r. ⌜ r ≡ ofClient address port (slotAt (now (row .entry)) (k .0)) ⌝ }
 {
     let at = WORDS * k.0;
-    if row[at + 1] != address {
+    if row[at + 2] != port as u32 {
         return false;
     }
-    if row[at + 2] != port as u32 {
+    if row[at + 1] != address {
         return false;
     }
     row[at] != 0

@@ -47,16 +47,18 @@ pub fn expire(row: &mut [u32], servers: &mut [Server; 64], clock: u32) -> u32 {
     removed
 }
 
-pub fn find(row: &[u32], address: u32, port: u32) -> Option<usize> {
-    row.chunks_exact(5).position(|slot| slot[1] == address && slot[2] == port && slot[0] != 0)
+pub fn find(row: &[u32], client: (u32, u16)) -> Option<usize> {
+    let (address, port) = (client.0, u32::from(client.1));
+    row.chunks_exact(5).position(|slot| slot[2] == port && slot[1] == address && slot[0] != 0)
 }
 
 pub fn find_free(row: &[u32]) -> Option<usize> {
     row.chunks_exact(5).position(|slot| slot[0] == 0)
 }
 
-pub fn address(packet: &[u8], at: usize) -> u32 {
-    u32::from_be_bytes([packet[at], packet[at + 1], packet[at + 2], packet[at + 3]])
+/// A packet's source address and port, with a header of 20 bytes.
+pub fn source(packet: &[u8]) -> (u32, u16) {
+    (u32::from(word(packet, 12)) << 16 | u32::from(word(packet, 14)), word(packet, 20))
 }
 
 fn word(packet: &[u8], at: usize) -> u16 {

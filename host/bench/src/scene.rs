@@ -6,6 +6,8 @@ use reference::packets;
 
 const VIRTUAL: u32 = 0xC000020A;
 const CLOCK: u32 = 1000;
+/// A client that has no connection.
+const NEW: (u32, u16) = (0x0B000001, 40000);
 
 /// State, row and packet, in the library's layout and in the second implementation's.
 #[derive(Clone)]
@@ -42,19 +44,13 @@ impl Scene {
         let used = (slots - 1).max(1);
         for slot in 0..used {
             let server = slot % servers;
-            row[5 * slot..5 * slot + 5].copy_from_slice(&[
-                1,
-                client(slot),
-                40000,
-                server as u32,
-                CLOCK,
-            ]);
+            let (address, port) = client(slot);
+            let words = [1, address, port.into(), server as u32, CLOCK];
+            row[5 * slot..5 * slot + 5].copy_from_slice(&words);
             state.servers[server].count += 1;
         }
-        let packet_of = |address: u32, flags: u8| {
-            packets::tcp((address, 40000), (VIRTUAL, 5432), flags).build()
-        };
-        let (kept, opening) = (packet_of(client(used - 1), 16), packet_of(0x0B000001, 2));
+        let packet_of = |from, flags| packets::tcp(from, (VIRTUAL, 5432), flags).build();
+        let (kept, opening) = (packet_of(client(used - 1), 16), packet_of(NEW, 2));
         Scene { twin: twin_of(&state), state, row, packet: kept.clone(), kept, opening }
     }
 
@@ -70,8 +66,9 @@ impl Scene {
     }
 }
 
-fn client(slot: usize) -> u32 {
-    0x0A000001 + slot as u32
+/// Few addresses with many ports each, as application servers in front of a database have.
+fn client(slot: usize) -> (u32, u16) {
+    (0x0A000001 + slot as u32 % 16, 1024 + slot as u16)
 }
 
 fn twin_of(state: &raw::State) -> reference::State {
@@ -143,8 +140,8 @@ pub fn plain(scene: &mut Scene, call: &str) -> u64 {
     if call == "tick" {
         return u64::from(sound) * 1000 + u64::from(removed);
     }
-    let wanted = if call == "opening" { 0x0B000001 } else { plain::address(&scene.packet, 12) };
-    let found = plain::find(&scene.row, wanted, 40000).or_else(|| plain::find_free(&scene.row));
+    let wanted = if call == "opening" { NEW } else { plain::source(&scene.packet) };
+    let found = plain::find(&scene.row, wanted).or_else(|| plain::find_free(&scene.row));
     let Some(slot) = found else { return 1300 };
     let server = servers[scene.row[5 * slot + 3] as usize % n];
     plain::redirect(&mut scene.packet, server.address, server.port);

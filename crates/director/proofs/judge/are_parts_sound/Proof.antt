@@ -1,6 +1,7 @@
 -- `judge::are_parts_sound` meets its contract: each return rewrites with the tests that led there.
 -- Assumes nothing.
 use mathlib.Core.Path.{sym, _∙_}
+use native.Mathlib.Omega.{arith}
 use borrow.Author.Needs.{needs}
 use borrow.Author.Tests.{not-true, not-false}
 use Rattle.director.specs.Judge.{partsSound}
@@ -17,6 +18,11 @@ returns-2 c =
     let first = c .before .before .before in
     rw (sym (first .before .all-keep .ensures) ∙ not-false _ (first .if1 .left), sym (c .before .in-range .ensures) ∙ not-true _ (c .if2 .taken))
 
+is-sound-requires : tie.Need-is-sound-requires
+is-sound-requires c κs =
+    let first = c .before .before .before in
+    (omega arith, sym (first .before .all-keep .ensures) ∙ not-false _ (first .if1 .left))
+
 returns-3 : tie.Need-returns-3
 unfolding partsSound
 returns-3 c =
@@ -28,4 +34,4 @@ returns-3 c =
 pub are-parts-sound-spec : {M : Type 1} → statement M
 are-parts-sound-spec =
     tie.close
-    (tie.spec (λ c κs. search needs) returns (λ c κs. search needs) returns-2 (λ c κs. search needs) returns-3)
+    (tie.spec (λ c κs. search needs) returns (λ c κs. search needs) returns-2 is-sound-requires returns-3)

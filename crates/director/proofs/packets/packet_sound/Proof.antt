@@ -7,11 +7,16 @@ use borrow.Author.Tests.{lt-ltb, le-ltb}
 use borrow.Author.Needs.{needs}
 use Rattle.table.proofs.Rows.{slots-words}
 use Rattle.director.specs.Packets.{packetHeld}
-use Rattle.director.proofs.Sound.{sound-words}
+use Rattle.director.proofs.Sound.{sound-parts, sound-words}
 use Rattle.director.proofs.Settled.{settled-sound}
 use Rattle.director.proofs.Segments.{segment-redirectable}
 use Rattle.director.proofs.packets.packet_sound.Statement.{statement}
 use Rattle.director.proofs.packets.packet_sound.Tie as tie
+
+read-segment-requires : tie.Need-read-segment-requires
+read-segment-requires c κs =
+    let a = c .before .before .before in
+    sound-parts (a .args .director) (now (a .args .row)) (a .pre) .settings .most
 
 returns : tie.Need-returns
 unfolding packetHeld
@@ -57,7 +62,7 @@ pub packet-sound-spec : {M : Type 1} → statement M
 packet-sound-spec =
     tie.close
     (tie.spec
-    (λ c κs. search needs)
+    read-segment-requires
     (λ c. search needs)
     (λ c κs. search needs)
     (λ c. search needs)
