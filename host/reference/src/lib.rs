@@ -1,4 +1,4 @@
-//! A packet director written from 01-scope.md alone, as a second opinion.
+//! A packet director written from the scope paper (01) alone, as a second opinion.
 //!
 //! Simple rather than fast: every call judges the whole state first.
 

@@ -1,4 +1,4 @@
-//! One test program; each module holds one subject of 01-scope.md.
+//! One test program; each module holds one subject of the scope paper (01).
 
 mod book;
 mod checksums;
