@@ -67,7 +67,8 @@ fn are_set(servers: [Server; 64], n: u32) -> bool
     true
 }
 
-// Whether none of the first n servers has the address and port of a lower one.
+// Whether none of the first n servers has the address and port of a lower one. The search among the lower ones stands in place: as a
+// call it would copy the array for each server.
 fn are_new(servers: [Server; 64], n: u32) -> bool
     requires { ⌜ n ≤ 64 ⌝ }
     ensures { λ r. ⌜ r ≡ allKeep Rule.New servers n ⌝ }
