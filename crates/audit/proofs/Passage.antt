@@ -23,7 +23,7 @@ use Rattle.servers.proofs.Ends.{SameEnds, number-same}
 use Rattle.servers.proofs.Endpoints.{number-found}
 use Rattle.director.specs.declared.state.Service.{Service}
 use Rattle.director.specs.declared.state.Director.{Director}
-use Rattle.director.specs.declared.segment.Way.{Way}
+use Rattle.director.specs.declared.state.Way.{Way}
 use Rattle.director.specs.declared.segment.Sender.{Sender}
 use Rattle.director.specs.declared.segment.Segment.{Segment}
 use Rattle.director.specs.declared.segment.Seen.{Seen}

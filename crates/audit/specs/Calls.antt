@@ -7,7 +7,7 @@ use Rattle.servers.specs.Servers.{serverAt}
 use Rattle.director.specs.declared.state.Service.{Service}
 use Rattle.director.specs.declared.state.Director.{Director}
 use Rattle.director.specs.declared.state.Answer.{Answer}
-use Rattle.director.specs.declared.segment.Way.{Way}
+use Rattle.director.specs.declared.state.Way.{Way}
 use Rattle.director.specs.State.{Result}
 use Rattle.director.specs.Setup.{setupOf}
 use Rattle.director.specs.Control.{weightOf, countCallOf}

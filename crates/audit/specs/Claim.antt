@@ -13,7 +13,7 @@ use Rattle.servers.specs.declared.Server.{Server}
 use Rattle.director.specs.declared.state.Service.{Service}
 use Rattle.director.specs.declared.state.Change.{Change}
 use Rattle.director.specs.declared.state.Answer.{Answer}
-use Rattle.director.specs.declared.segment.Way.{Way}
+use Rattle.director.specs.declared.state.Way.{Way}
 use Rattle.director.specs.declared.segment.Segment.{Segment}
 use Rattle.director.specs.declared.segment.Seen.{Seen}
 use Rattle.director.specs.State.{Result, refusalNumber}

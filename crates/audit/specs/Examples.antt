@@ -15,7 +15,7 @@ use Rattle.scheduler.specs.Walk.{startOf}
 use Rattle.table.specs.Slots.{slotOf, words}
 use Rattle.director.specs.declared.state.Director.{Director}
 use Rattle.director.specs.declared.state.Answer.{Answer}
-use Rattle.director.specs.declared.segment.Way.{Way}
+use Rattle.director.specs.declared.state.Way.{Way}
 use Rattle.director.specs.State.{Result, refusalNumber}
 use Rattle.director.specs.Tick.{tickOf}
 use Rattle.director.specs.Packets.{packetOf}

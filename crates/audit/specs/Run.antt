@@ -12,7 +12,7 @@ use Rattle.director.specs.declared.state.Service.{Service}
 use Rattle.director.specs.declared.state.Refusal.{Refusal}
 use Rattle.director.specs.declared.state.Change.{Change}
 use Rattle.director.specs.declared.state.Answer.{Answer}
-use Rattle.director.specs.declared.segment.Way.{Way}
+use Rattle.director.specs.declared.state.Way.{Way}
 use Rattle.audit.specs.Calls.{Call, setUp, count, tick, packet, Fits, AllFit, State, Line, recordOf}
 
 -- P11's service: 192.0.2.10:5432, TCP, round-robin, over two servers

@@ -10,7 +10,7 @@ use Rattle.checksum.specs.Ones.{Bytes}
 use Rattle.table.specs.Slots.{slots, words}
 use Rattle.table.proofs.Rows.{slots-words}
 use Rattle.director.specs.declared.state.Director.{Director}
-use Rattle.director.specs.declared.segment.Way.{Way}
+use Rattle.director.specs.declared.state.Way.{Way}
 use Rattle.director.specs.declared.segment.Segment.{Segment}
 use Rattle.director.specs.declared.segment.Seen.{Seen}
 use Rattle.director.specs.State.{Held}

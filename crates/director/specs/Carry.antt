@@ -12,6 +12,7 @@ use Rattle.packet.specs.declared.redirect.Side.{Side}
 use Rattle.packet.specs.Redirect.{redirected, Redirectable}
 use Rattle.table.specs.declared.slot.Slot.{Slot}
 use Rattle.table.specs.Slots.{wordsPerSlot, slotOf, freeSlot, slotAt, IsRow}
+use Rattle.director.specs.declared.state.Service.{Service}
 use Rattle.director.specs.declared.state.Director.{Director}
 use Rattle.director.specs.declared.state.Change.{Change}
 use Rattle.director.specs.declared.state.Answer.{Answer}
@@ -42,10 +43,13 @@ touched m now s = record {
 
 -- the packet sent on: "Inbound rewriting sets destination address and port to the server's. Outbound sets source address and port to the
 -- virtual ones."
+abbrev pub sentOn : Service → Server → List ℕ → Sender → List ℕ
+sentOn g v p Sender.Client = redirected (g .protocol) Side.Destination (v .address) (v .port) p
+sentOn g v p (Sender.Server i) = redirected (g .protocol) Side.Source (g .address) (g .port) p
+
+-- a packet of server k, sent on
 abbrev pub forwarded : Director → ℕ → List ℕ → Sender → List ℕ
-forwarded d k p Sender.Client =
-    redirected (d .service .protocol) Side.Destination (serverAt (d .servers) k .address) (serverAt (d .servers) k .port) p
-forwarded d k p (Sender.Server i) = redirected (d .service .protocol) Side.Source (d .service .address) (d .service .port) p
+forwarded d k p sender = sentOn (d .service) (serverAt (d .servers) k) p sender
 
 -- the state with other servers and another walk
 abbrev pub withServers : Director → List Server → Walk → Director
@@ -81,15 +85,17 @@ carriedOut d l p m (Decision.Keep k) = keptHeld d l p m (k .0)
 carriedOut d l p m (Decision.End k) = endedHeld d l p m (k .0)
 carriedOut d l p m (Decision.Open k i walk) = openedHeld d l p m (k .0) i walk
 
--- what a function that writes slot k and the packet asks for: a whole row that has the slot, and a packet that can be redirected
-pub record Ready (d : Director) (row p : List ℕ) (k : ℕ) : Type 0 where
+-- what a function that writes slot k and the packet of server i asks for: a whole row that has the slot, one of the 64 places, and a packet that
+-- can be redirected
+pub record Ready (d : Director) (row p : List ℕ) (k i : ℕ) : Type 0 where
   pub whole : IsRow row
   pub within : k < length row / wordsPerSlot
+  pub place : i < 64
   pub packet : Redirectable (d .service .protocol) p
 
 -- what is asked for where a decision is carried out
 abbrev pub Feasible : Director → List ℕ → List ℕ → Decision → Type 0
 Feasible d row p (Decision.Refuse why) = IsRow row
-Feasible d row p (Decision.Keep k) = Ready d row p (k .0)
-Feasible d row p (Decision.End k) = Ready d row p (k .0) × (1 ≤ countAt (d .servers) (slotAt row (k .0) .server .0))
-Feasible d row p (Decision.Open k i walk) = Ready d row p (k .0) × (countAt (d .servers) (i .0) < 4294967295)
+Feasible d row p (Decision.Keep k) = Ready d row p (k .0) (slotAt row (k .0) .server .0)
+Feasible d row p (Decision.End k) = Ready d row p (k .0) (slotAt row (k .0) .server .0) × (1 ≤ countAt (d .servers) (slotAt row (k .0) .server .0))
+Feasible d row p (Decision.Open k i walk) = Ready d row p (k .0) (i .0) × (countAt (d .servers) (i .0) < 4294967295)

@@ -11,7 +11,7 @@ use Rattle.servers.specs.declared.Server.{Server}
 use Rattle.servers.specs.Rules.{numberOf}
 use Rattle.director.specs.declared.state.Service.{Service}
 use Rattle.director.specs.declared.state.Refusal.{Refusal}
-use Rattle.director.specs.declared.segment.Way.{Way}
+use Rattle.director.specs.declared.state.Way.{Way}
 use Rattle.director.specs.declared.segment.Sender.{Sender}
 use Rattle.director.specs.declared.segment.Seen.{Seen}
 

@@ -6,6 +6,7 @@ use crate::state::Answer;
 use crate::state::Change;
 use crate::state::Director;
 use crate::state::Outcome;
+use crate::state::Service;
 use crate::state::refuse;
 use packet::redirect::Side;
 use packet::redirect::redirect_packet;
@@ -14,7 +15,6 @@ use servers::Server;
 use servers::ServerNo;
 use servers::lower;
 use servers::raise;
-use servers::server_at;
 use table::slot::Slot;
 use table::slot::SlotNo;
 use table::slot::free_slot;
@@ -26,7 +26,7 @@ ghost use Rattle.servers.specs.Servers.{countAt};
 ghost use Rattle.packet.specs.Redirect.{Redirectable};
 ghost use Rattle.table.specs.Slots.{slots, slotAt};
 ghost use Rattle.director.specs.State.{result, inWords};
-ghost use Rattle.director.specs.Carry.{phaseOf, touched, forwarded, withServers, passedBy, keptHeld, endedHeld, openedHeld, carriedOut, Ready, Feasible};
+ghost use Rattle.director.specs.Carry.{phaseOf, touched, sentOn, forwarded, withServers, passedBy, keptHeld, endedHeld, openedHeld, carriedOut, Ready, Feasible};
 
 // The phase after a packet of a connection.
 fn phase_after(phase: u32, fin: bool, sender: Sender) -> u32
@@ -65,16 +65,13 @@ fn touch(slot: Slot, segment: Segment, clock: u32) -> Slot
     }
 }
 
-// Sends a packet on: a client's to server `no`, a server's to its client.
-fn forward(packet: &mut [u8], director: Director, sender: Sender, no: ServerNo)
-    requires { ⌜ Redirectable (director .service .protocol) (now packet) ⌝ }
-    ensures { λ _. ⌜ now (packet .exit) ≡ forwarded director (no .0) (now (packet .entry)) sender ⌝ }
+// Sends a packet on: a client's to the server, a server's to its client.
+fn forward(packet: &mut [u8], service: Service, server: Server, sender: Sender)
+    requires { ⌜ Redirectable (service .protocol) (now packet) ⌝ }
+    ensures { λ _. ⌜ now (packet .exit) ≡ sentOn service server (now (packet .entry)) sender ⌝ }
 {
-    let service = director.service;
-    let servers = director.servers;
     match sender {
         Sender::Client => {
-            let server = server_at(servers, no);
             redirect_packet(
                 packet,
                 service.protocol,
@@ -116,12 +113,15 @@ fn pass(
     no: ServerNo,
     change: Change,
 ) -> Outcome
-    requires { ⌜ Redirectable (director .service .protocol) (now packet) ⌝ }
+    requires { ⌜ Redirectable (director .service .protocol) (now packet) × (no .0 < 64) ⌝ }
     ensures packet { λ r. ⌜ now (packet .exit) ≡ forwarded director (no .0) (now (packet .entry)) (segment .sender) ⌝ }
     ensures outcome { λ r. ⌜ r ≡ passedBy director no change ⌝ }
 {
+    let service = director.service;
+    let at = no.0 as usize;
+    let server = director.servers[at];
     let sender = segment.sender;
-    forward(packet, director, sender, no);
+    forward(packet, service, server, sender);
     Outcome {
         answer: Answer::Passed(no, change),
         director,
@@ -136,7 +136,7 @@ fn keep(
     segment: Segment,
     k: SlotNo,
 ) -> Outcome
-    requires { ⌜ Ready director (now row) (now packet) (k .0) ⌝ }
+    requires { ⌜ Ready director (now row) (now packet) (k .0) (slotAt (now row) (k .0) .server .0) ⌝ }
     ensures { λ r. ⌜ result r (now (row .exit)) (now (packet .exit)) ≡ inWords (keptHeld director (slots (now (row .entry))) (now (packet .entry)) segment (k .0)) ⌝ }
 {
     let slot = slot_at(row, k);
@@ -153,7 +153,7 @@ fn end(
     segment: Segment,
     k: SlotNo,
 ) -> Outcome
-    requires { ⌜ Ready director (now row) (now packet) (k .0) ⌝ }
+    requires { ⌜ Ready director (now row) (now packet) (k .0) (slotAt (now row) (k .0) .server .0) ⌝ }
     requires { ⌜ 1 ≤ countAt (director .servers) (slotAt (now row) (k .0) .server .0) ⌝ }
     ensures { λ r. ⌜ result r (now (row .exit)) (now (packet .exit)) ≡ inWords (endedHeld director (slots (now (row .entry))) (now (packet .entry)) segment (k .0)) ⌝ }
 {
@@ -176,7 +176,7 @@ fn open(
     no: ServerNo,
     walk: Walk,
 ) -> Outcome
-    requires { ⌜ Ready director (now row) (now packet) (k .0) ⌝ }
+    requires { ⌜ Ready director (now row) (now packet) (k .0) (no .0) ⌝ }
     requires { ⌜ countAt (director .servers) (no .0) < 4294967295 ⌝ }
     ensures { λ r. ⌜ result r (now (row .exit)) (now (packet .exit)) ≡ inWords (openedHeld director (slots (now (row .entry))) (now (packet .entry)) segment (k .0) no walk) ⌝ }
 {

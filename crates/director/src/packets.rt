@@ -5,11 +5,11 @@ use crate::decide::decide;
 use crate::judge::is_sound;
 use crate::segment::Seen;
 use crate::segment::Segment;
-use crate::segment::Way;
 use crate::segment::read_segment;
 use crate::state::Director;
 use crate::state::Outcome;
 use crate::state::Refusal;
+use crate::state::Way;
 use crate::state::refuse;
 ghost use mathlib.Core.Path.{_≡_};
 ghost use mathlib.Core.Bool.{true};
@@ -18,7 +18,7 @@ ghost use Rattle.table.specs.Slots.{slots};
 ghost use Rattle.director.specs.State.{result, inWords};
 ghost use Rattle.director.specs.Judge.{soundOf};
 ghost use Rattle.director.specs.Packets.{routed, packetHeld, packetOf};
-ghost use Rattle.director.specs.declared.segment.Way.{Way};
+ghost use Rattle.director.specs.declared.state.Way.{Way};
 
 // A packet that got past 11: its refusal, 12 to 14, or what becomes of its connection.
 fn route(director: Director, row: &mut [u32], packet: &mut [u8], segment: Segment) -> Outcome
@@ -53,8 +53,8 @@ fn packet_sound(
     }
 }
 
-// A packet call: 15 where the state handed in is not sound.
-fn take_packet(
+// A packet call, either way: 15 where the state handed in is not sound.
+pub fn take_packet(
     way: Way,
     director: Director,
     row: &mut [u32],

@@ -2,6 +2,7 @@
 use crate::state::Director;
 use crate::state::Refusal;
 use crate::state::Service;
+use crate::state::Way;
 use packet::read::Flags;
 use packet::read::Packet;
 use packet::read::Reading;
@@ -12,12 +13,6 @@ use servers::rules::number_of;
 ghost use mathlib.Core.Path.{_≡_};
 ghost use Prim.Native.Nat.{_≤_};
 ghost use Rattle.director.specs.Segment.{fromClient, fromServer, segmentRead};
-
-// Which way a packet goes: from a client, or from a server.
-pub enum Way {
-    Inbound,
-    Outbound,
-}
 
 // Who sent a packet.
 pub enum Sender {

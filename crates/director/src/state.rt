@@ -28,6 +28,12 @@ pub struct Director {
     pub clock: u32,
 }
 
+// Which way a packet goes: from a client, or from a server.
+pub enum Way {
+    Inbound,
+    Outbound,
+}
+
 // Why a call is refused; `refusalNumber` gives 01's number.
 pub enum Refusal {
     // 1: number of servers or length of the row

@@ -9,6 +9,7 @@ use Rattle.director.specs.declared.state.Change.{Change}
 use Rattle.director.specs.State.{Result, refusalNumber}
 use Rattle.nidhaaguf.specs.declared.state.State.{State}
 use Rattle.nidhaaguf.specs.declared.reply.Reply.{Reply}
+use Rattle.nidhaaguf.specs.declared.reply.Told.{Told}
 use Rattle.nidhaaguf.specs.State.{encoded}
 
 -- "one of: opened .., ended .., kept"
@@ -21,24 +22,38 @@ changeNumber Change.Ended = 3
 abbrev pub changesNothing : ℕ → Bool
 changesNothing k = (leb 1 k && leb k 11) || eqb k 15
 
+-- an answer in numbers: 0 for an accepted call, or the refusal; the number is the count, or how many connections the tick removed, or the
+-- packet's server. "A refusal's answer is its number alone"
+abbrev pub toldBy : Answer → Told
+toldBy Answer.Done = record { refusal = 0; number = 0; change = 0 }
+toldBy (Answer.Number n) = record { refusal = 0; number = n; change = 0 }
+toldBy (Answer.Passed i change) = record { refusal = 0; number = i .0; change = changeNumber change }
+toldBy (Answer.Refused why) = record { refusal = refusalNumber why; number = 0; change = 0 }
+
+-- what is told, with "the state .. beside it"
+abbrev pub beside : State → Told → Reply
+beside s t = record { state = s; refusal = t .refusal; number = t .number; change = t .change }
+
 -- the state that was handed in, in every field, where the refusal changes nothing; else the director's
 abbrev pub stateAfter : State → Director → ℕ → State
 stateAfter given d refusal = cond (changesNothing refusal) given (encoded d)
 
--- the reply to an accepted call: refusal 0
-abbrev pub accepted : Director → ℕ → ℕ → Reply
-accepted d number change = record { state = encoded d; refusal = 0; number = number; change = change }
-
--- "A refusal's answer is its number alone; the state comes back beside it."
-abbrev pub refused : State → Director → ℕ → Reply
-refused given d refusal = record { state = stateAfter given d refusal; refusal = refusal; number = 0; change = 0 }
-
--- the reply to a call that was handed a state: the number is the count, or how many connections the tick removed, or the packet's server
+-- the reply to a call that was handed a state
 abbrev pub replyOf : State → Director → Answer → Reply
-replyOf given d Answer.Done = accepted d 0 0
-replyOf given d (Answer.Number n) = accepted d n 0
-replyOf given d (Answer.Passed i change) = accepted d (i .0) (changeNumber change)
-replyOf given d (Answer.Refused why) = refused given d (refusalNumber why)
+replyOf given d a = beside (stateAfter given d (toldBy a .refusal)) (toldBy a)
+
+-- The same from the handed state's place alone, as the code has it: where a refusal changes nothing, all else is the director's
+-- (proofs/Handed: `as-exported`).
+
+-- the director's state in plain numbers, but at another place
+abbrev pub encodedAt : Director → ℕ → State
+encodedAt d place = record { service = d .service; clock = d .clock; servers = d .servers; place = place; level = d .walk .level }
+
+abbrev pub stateAt : ℕ → Director → ℕ → State
+stateAt place d refusal = cond (changesNothing refusal) (encodedAt d place) (encoded d)
+
+abbrev pub replyAt : ℕ → Director → Answer → Reply
+replyAt place d a = beside (stateAt place d (toldBy a .refusal)) (toldBy a)
 
 -- everything that a call settles: its reply, and the row and the packet that it leaves
 pub record Replied : Type 0 where

@@ -5,10 +5,10 @@ pub mod state;
 
 use director::control::count;
 use director::control::set_weight;
-use director::packets::inbound;
-use director::packets::outbound;
+use director::packets::take_packet;
 use director::setup::set_up;
 use director::state::Service;
+use director::state::Way;
 use director::tick::tick;
 use reply::Reply;
 use reply::reply_of;
@@ -22,7 +22,7 @@ ghost use Rattle.director.specs.Setup.{setupOf};
 ghost use Rattle.director.specs.Control.{weightOf, countCallOf};
 ghost use Rattle.director.specs.Tick.{tickOf};
 ghost use Rattle.director.specs.Packets.{packetOf};
-ghost use Rattle.director.specs.declared.segment.Way.{Way};
+ghost use Rattle.director.specs.declared.state.Way.{Way};
 ghost use Rattle.nidhaaguf.specs.State.{decoded};
 ghost use Rattle.nidhaaguf.specs.Reply.{replied, exported};
 
@@ -37,7 +37,7 @@ pub extern "C" fn nidhaaguf_set_up(
     ensures { λ r. ⌜ replied r (now (row .exit)) [] ≡ exported state (setupOf (decoded state) service (servers .server) (now (row .entry))) ⌝ }
 {
     let settings = servers.server;
-    reply_of(state, set_up(decode(state), service, settings, row))
+    reply_of(state.place, set_up(decode(state), service, settings, row))
 }
 
 // Sets a server's weight.
@@ -46,7 +46,7 @@ pub extern "C" fn nidhaaguf_set_weight(state: State, row: &[u32], number: u32, w
     ensures { λ r. ⌜ replied r (now (row .entry)) [] ≡ exported state (weightOf (decoded state) (now (row .entry)) number weight) ⌝ }
 {
     reply_of(
-        state,
+        state.place,
         set_weight(decode(state), row, ServerNo(number), weight),
     )
 }
@@ -56,7 +56,7 @@ pub extern "C" fn nidhaaguf_set_weight(state: State, row: &[u32], number: u32, w
 pub extern "C" fn nidhaaguf_count(state: State, row: &[u32], number: u32) -> Reply
     ensures { λ r. ⌜ replied r (now (row .entry)) [] ≡ exported state (countCallOf (decoded state) (now (row .entry)) number) ⌝ }
 {
-    reply_of(state, count(decode(state), row, ServerNo(number)))
+    reply_of(state.place, count(decode(state), row, ServerNo(number)))
 }
 
 // Moves the clock on.
@@ -64,7 +64,7 @@ pub extern "C" fn nidhaaguf_count(state: State, row: &[u32], number: u32) -> Rep
 pub extern "C" fn nidhaaguf_tick(state: State, row: &mut [u32], clock: u32) -> Reply
     ensures { λ r. ⌜ replied r (now (row .exit)) [] ≡ exported state (tickOf (decoded state) (now (row .entry)) clock) ⌝ }
 {
-    reply_of(state, tick(decode(state), row, clock))
+    reply_of(state.place, tick(decode(state), row, clock))
 }
 
 // Takes a packet from a client.
@@ -77,7 +77,10 @@ pub extern "C" fn nidhaaguf_inbound(
 ) -> Reply
     ensures { λ r. ⌜ replied r (now (row .exit)) (now (packet .exit)) ≡ exported state (packetOf Way.Inbound (decoded state) (now (row .entry)) (now (packet .entry)) clock) ⌝ }
 {
-    reply_of(state, inbound(decode(state), row, packet, clock))
+    reply_of(
+        state.place,
+        take_packet(Way::Inbound, decode(state), row, packet, clock),
+    )
 }
 
 // Takes a packet from a server.
@@ -90,5 +93,8 @@ pub extern "C" fn nidhaaguf_outbound(
 ) -> Reply
     ensures { λ r. ⌜ replied r (now (row .exit)) (now (packet .exit)) ≡ exported state (packetOf Way.Outbound (decoded state) (now (row .entry)) (now (packet .entry)) clock) ⌝ }
 {
-    reply_of(state, outbound(decode(state), row, packet, clock))
+    reply_of(
+        state.place,
+        take_packet(Way::Outbound, decode(state), row, packet, clock),
+    )
 }

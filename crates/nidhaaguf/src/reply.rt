@@ -7,7 +7,7 @@ use director::state::Change;
 use director::state::Director;
 use director::state::Outcome;
 ghost use mathlib.Core.Path.{_≡_};
-ghost use Rattle.nidhaaguf.specs.Reply.{changeNumber, changesNothing, stateAfter, accepted, refused, replyOf};
+ghost use Rattle.nidhaaguf.specs.Reply.{changeNumber, changesNothing, toldBy, stateAt, replyAt};
 
 // NidhaagufAnswer: the state after a call and its answer, 816 bytes.
 #[repr(C)]
@@ -19,6 +19,13 @@ pub struct Reply {
     pub number: u32,
     // of an accepted packet 1 opened, 2 kept, 3 ended, else 0
     pub change: u32,
+}
+
+// What an answer tells: a reply without the state.
+struct Told {
+    refusal: u32,
+    number: u32,
+    change: u32,
 }
 
 // The number of a connection's change.
@@ -39,51 +46,57 @@ fn changes_nothing(refusal: u32) -> bool
     ((1 <= refusal) & (refusal <= 11)) | (refusal == 15)
 }
 
-// The state after a call: the very one given where the refusal changes nothing, so that a place that can't be decoded comes back too.
-fn state_after(given: State, director: Director, refusal: u32) -> State
-    ensures { λ r. ⌜ r ≡ stateAfter given director refusal ⌝ }
+// An answer in 01's numbers.
+fn told_by(answer: Answer) -> Told
+    ensures { λ r. ⌜ r ≡ toldBy answer ⌝ }
 {
+    match answer {
+        Answer::Done => Told {
+            refusal: 0,
+            number: 0,
+            change: 0,
+        },
+        Answer::Number(number) => Told {
+            refusal: 0,
+            number,
+            change: 0,
+        },
+        Answer::Passed(no, change) => Told {
+            refusal: 0,
+            number: no.0,
+            change: change_number(change),
+        },
+        Answer::Refused(why) => Told {
+            refusal: refusal_number(why) as u32,
+            number: 0,
+            change: 0,
+        },
+    }
+}
+
+// The state after a call. Where the refusal changes nothing it is the one handed in, and only the place can be another than the
+// director's: one that can't be decoded comes back too. So the place alone is handed here, and not the whole state.
+fn state_after(place: u64, director: Director, refusal: u32) -> State
+    ensures { λ r. ⌜ r ≡ stateAt place director refusal ⌝ }
+{
+    let mut state = encode(director);
     if changes_nothing(refusal) {
-        given
-    } else {
-        encode(director)
+        state.place = place;
     }
+    state
 }
 
-// The reply to an accepted call.
-fn accepted(director: Director, number: u32, change: u32) -> Reply
-    ensures { λ r. ⌜ r ≡ accepted director number change ⌝ }
-{
-    Reply {
-        state: encode(director),
-        refusal: 0,
-        number,
-        change,
-    }
-}
-
-// The reply to a refused call that was handed a state.
-fn refused(given: State, director: Director, refusal: u32) -> Reply
-    ensures { λ r. ⌜ r ≡ refused given director refusal ⌝ }
-{
-    Reply {
-        state: state_after(given, director, refusal),
-        refusal,
-        number: 0,
-        change: 0,
-    }
-}
-
-// The reply to a call that was handed a state and had an outcome.
-pub fn reply_of(given: State, outcome: Outcome) -> Reply
-    ensures { λ r. ⌜ r ≡ replyOf given (outcome .director) (outcome .answer) ⌝ }
+// The reply to a call that was handed a state with this place and had an outcome.
+pub fn reply_of(place: u64, outcome: Outcome) -> Reply
+    ensures { λ r. ⌜ r ≡ replyAt place (outcome .director) (outcome .answer) ⌝ }
 {
     let answer = outcome.answer;
     let director = outcome.director;
-    match answer {
-        Answer::Done => accepted(director, 0, 0),
-        Answer::Number(n) => accepted(director, n, 0),
-        Answer::Passed(no, change) => accepted(director, no.0, change_number(change)),
-        Answer::Refused(why) => refused(given, director, refusal_number(why) as u32),
+    let told = told_by(answer);
+    Reply {
+        state: state_after(place, director, told.refusal),
+        refusal: told.refusal,
+        number: told.number,
+        change: told.change,
     }
 }

@@ -1,28 +1,26 @@
 //! `bench SIDE CALL SLOTS SERVERS REPS`: makes a sound state with all but one slot used, and repeats one call on it.
 //!
-//! SIDE is library, reference or plain; CALL is kept, opening or tick. Count two runs with different REPS under callgrind:
+//! SIDE is library, reference or plain; CALL is kept, opening or tick. With `--one-port` each client has an address of its own and all
+//! have one port, instead of few addresses with many ports. Count two runs with different REPS under callgrind:
 //! their difference is the calls alone (the script `bench` at the top of the repository does that). With `--time` it
 //! prints nanoseconds a call instead.
 
 mod plain;
 mod scene;
 
-use scene::Scene;
+use scene::{Call, Clients, Scene};
 use std::time::Instant;
 
 fn main() {
     let words: Vec<String> = std::env::args().skip(1).collect();
-    let timed = words.iter().any(|word| word == "--time");
+    let given = |flag: &str| words.iter().any(|word| word == flag);
+    let timed = given("--time");
+    let clients = if given("--one-port") { Clients::OnePort } else { Clients::FewAddresses };
     let words: Vec<&str> =
-        words.iter().map(String::as_str).filter(|word| *word != "--time").collect();
-    let [side, call, slots, servers, reps] = words[..] else {
-        eprintln!(
-            "usage: bench library|reference|plain kept|opening|tick SLOTS SERVERS REPS [--time]"
-        );
-        std::process::exit(2);
-    };
+        words.iter().map(String::as_str).filter(|word| !word.starts_with("--")).collect();
+    let [side, call, slots, servers, reps] = words[..] else { usage() };
     let number = |text: &str| text.parse::<usize>().expect("a number");
-    let scene = Scene::new(number(slots), number(servers));
+    let scene = Scene::new(number(slots), number(servers), clients);
     let reps = number(reps);
     let begin = Instant::now();
     let told = run(&scene, side, call, reps);
@@ -33,14 +31,20 @@ fn main() {
     }
 }
 
+fn usage() -> ! {
+    eprintln!("usage: bench library|reference|plain kept|opening|tick SLOTS SERVERS REPS [--time] [--one-port]");
+    std::process::exit(2);
+}
+
 /// The call, repeated on the same state; what it answered is printed, so that nothing is left out as unused.
 fn run(scene: &Scene, side: &str, call: &str, reps: usize) -> u64 {
-    let one: fn(&mut Scene, &str) -> u64 = match side {
+    let one: fn(&mut Scene, Call) -> u64 = match side {
         "library" => scene::library,
         "reference" => scene::reference,
         "plain" => scene::plain,
-        _ => panic!("no such side: {side}"),
+        _ => usage(),
     };
+    let call = Call::named(call).unwrap_or_else(|| usage());
     let mut scratch = scene.clone();
     let mut told = 0;
     for _ in 0..reps {

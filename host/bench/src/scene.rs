@@ -9,6 +9,25 @@ const CLOCK: u32 = 1000;
 /// A client that has no connection.
 const NEW: (u32, u16) = (0x0B000001, 40000);
 
+/// What is measured.
+#[derive(Clone, Copy, PartialEq)]
+pub enum Call {
+    Kept,
+    Opening,
+    Tick,
+}
+
+impl Call {
+    pub fn named(name: &str) -> Option<Call> {
+        match name {
+            "kept" => Some(Call::Kept),
+            "opening" => Some(Call::Opening),
+            "tick" => Some(Call::Tick),
+            _ => None,
+        }
+    }
+}
+
 /// State, row and packet, in the library's layout and in the second implementation's.
 #[derive(Clone)]
 pub struct Scene {
@@ -22,7 +41,7 @@ pub struct Scene {
 
 impl Scene {
     /// All slots used but the last, by clients of their own; of one slot, it is used.
-    pub fn new(slots: usize, servers: usize) -> Scene {
+    pub fn new(slots: usize, servers: usize, clients: Clients) -> Scene {
         let service = raw::Service {
             address: VIRTUAL,
             port: 5432,
@@ -44,13 +63,13 @@ impl Scene {
         let used = (slots - 1).max(1);
         for slot in 0..used {
             let server = slot % servers;
-            let (address, port) = client(slot);
+            let (address, port) = clients.client(slot);
             let words = [1, address, port.into(), server as u32, CLOCK];
             row[5 * slot..5 * slot + 5].copy_from_slice(&words);
             state.servers[server].count += 1;
         }
         let packet_of = |from, flags| packets::tcp(from, (VIRTUAL, 5432), flags).build();
-        let (kept, opening) = (packet_of(client(used - 1), 16), packet_of(NEW, 2));
+        let (kept, opening) = (packet_of(clients.client(used - 1), 16), packet_of(NEW, 2));
         Scene { twin: twin_of(&state), state, row, packet: kept.clone(), kept, opening }
     }
 
@@ -60,15 +79,28 @@ impl Scene {
         self.twin.clock = first.twin.clock;
     }
 
-    fn set_packet(&mut self, call: &str) {
-        let from = if call == "opening" { &self.opening } else { &self.kept };
+    fn set_packet(&mut self, call: Call) {
+        let from = if call == Call::Opening { &self.opening } else { &self.kept };
         self.packet.copy_from_slice(from);
     }
 }
 
-/// Few addresses with many ports each, as application servers in front of a database have.
-fn client(slot: usize) -> (u32, u16) {
-    (0x0A000001 + slot as u32 % 16, 1024 + slot as u16)
+/// How the clients differ.
+#[derive(Clone, Copy)]
+pub enum Clients {
+    /// Few addresses with many ports each, as application servers in front of a database have.
+    FewAddresses,
+    /// An address for each, and one port.
+    OnePort,
+}
+
+impl Clients {
+    fn client(self, slot: usize) -> (u32, u16) {
+        match self {
+            Clients::FewAddresses => (0x0A000001 + slot as u32 % 16, 1024 + slot as u16),
+            Clients::OnePort => (0x0A000001 + slot as u32, 1024),
+        }
+    }
 }
 
 fn twin_of(state: &raw::State) -> reference::State {
@@ -100,26 +132,26 @@ fn free_last(row: &mut [u32]) {
     row[last..].fill(0);
 }
 
-pub fn library(scene: &mut Scene, call: &str) -> u64 {
+pub fn library(scene: &mut Scene, call: Call) -> u64 {
     scene.set_packet(call);
     let answer = match call {
-        "tick" => raw::tick(scene.state, &mut scene.row, CLOCK),
+        Call::Tick => raw::tick(scene.state, &mut scene.row, CLOCK),
         _ => raw::inbound(scene.state, &mut scene.row, &mut scene.packet, CLOCK),
     };
-    if call == "opening" && answer.refusal == 0 {
+    if call == Call::Opening && answer.refusal == 0 {
         free_last(&mut scene.row);
     }
     u64::from(answer.refusal) * 100 + u64::from(answer.change)
 }
 
-pub fn reference(scene: &mut Scene, call: &str) -> u64 {
+pub fn reference(scene: &mut Scene, call: Call) -> u64 {
     scene.set_packet(call);
     let mut state = scene.twin;
     let answer = match call {
-        "tick" => reference::tick(&mut state, &mut scene.row, CLOCK),
+        Call::Tick => reference::tick(&mut state, &mut scene.row, CLOCK),
         _ => reference::inbound(&mut state, &mut scene.row, &mut scene.packet, CLOCK),
     };
-    if call == "opening" && matches!(answer, reference::Answer::Passed(..)) {
+    if call == Call::Opening && matches!(answer, reference::Answer::Passed(..)) {
         free_last(&mut scene.row);
     }
     match answer {
@@ -130,17 +162,17 @@ pub fn reference(scene: &mut Scene, call: &str) -> u64 {
     }
 }
 
-pub fn plain(scene: &mut Scene, call: &str) -> u64 {
+pub fn plain(scene: &mut Scene, call: Call) -> u64 {
     scene.set_packet(call);
     let mut servers = scene.twin.servers;
     let service = scene.twin.service;
     let n = service.servers as usize;
     let sound = plain::is_sound(&servers, n, &scene.row, CLOCK);
     let removed = plain::expire(&mut scene.row, &mut servers, CLOCK);
-    if call == "tick" {
+    if call == Call::Tick {
         return u64::from(sound) * 1000 + u64::from(removed);
     }
-    let wanted = if call == "opening" { NEW } else { plain::source(&scene.packet) };
+    let wanted = if call == Call::Opening { NEW } else { plain::source(&scene.packet) };
     let found = plain::find(&scene.row, wanted).or_else(|| plain::find_free(&scene.row));
     let Some(slot) = found else { return 1300 };
     let server = servers[scene.row[5 * slot + 3] as usize % n];

@@ -1,11 +1,16 @@
 -- `nidhaaguf_set_up` meets its contract: the director's call does, of the decoded state, and the reply is of its outcome.
 -- Assumes nothing.
+use denote.Ref.{now}
 use borrow.Author.Needs.{needs}
+use Rattle.nidhaaguf.proofs.Handed.{as-exported, set-up-handed}
 use Rattle.nidhaaguf.proofs.nidhaaguf_set_up.Statement.{statement}
 use Rattle.nidhaaguf.proofs.nidhaaguf_set_up.Tie as tie
 
 returns : tie.Need-returns
-returns c = rw (c .reply-of .ensures, ← (c .before .before .before .before .before .decode .ensures), ← (c .before .before .before .set-up .ensures))
+returns c =
+    let a = c .before .before .before .before .before .before .before .before .args in
+    let met = rw (c .before .before .before .before .before .decode .ensures) at (c .before .before .before .set-up .ensures) in
+    rw (c .reply-of .ensures) (as-exported (a .state) _ _ _ _ met (set-up-handed (a .state) (a .service) (a .servers .server) (now (a .row))))
 
 pub nidhaaguf-set-up-spec : {M : Type 1} → statement M
 nidhaaguf-set-up-spec = tie.close (tie.spec (λ c κs. search needs) (λ c κs. search needs) (λ c κs. search needs) (λ c. search needs) returns)

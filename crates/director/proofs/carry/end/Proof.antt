@@ -12,7 +12,8 @@ lower-requires c κs =
 pass-requires : tie.Need-pass-requires
 pass-requires c κs =
     let a = c .before .before .before .before .before .before .before .before .before .before .before .before .before .before in
-    rw (c .before .with-servers .ensures) (a .pre .0 .packet)
+    let slot = c .before .before .before .before .before .before .before .before .before .before .slot-at .ensures in
+    (rw (c .before .with-servers .ensures) (a .pre .0 .packet), rw slot (a .pre .0 .place))
 
 returns : tie.Need-returns
 returns c =

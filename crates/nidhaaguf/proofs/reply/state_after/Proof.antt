@@ -1,15 +1,15 @@
 -- `reply::state_after` meets its contract: each return rewrites with the test that led there.
 -- Assumes nothing.
-use borrow.Author.Needs.{needs}
 use mathlib.Core.Path.{sym, _∙_}
+use borrow.Author.Needs.{needs}
 use Rattle.nidhaaguf.proofs.reply.state_after.Statement.{statement}
 use Rattle.nidhaaguf.proofs.reply.state_after.Tie as tie
 
 returns : tie.Need-returns
-returns c = rw (sym (c .before .changes-nothing .ensures) ∙ c .if1 .taken)
+returns c = rw (sym (c .before .changes-nothing .ensures) ∙ c .if1 .taken, c .before .before .encode .ensures)
 
 returns-2 : tie.Need-returns-2
-returns-2 c = rw (sym (c .before .before .changes-nothing .ensures) ∙ c .before .if1 .left, c .encode .ensures)
+returns-2 c = rw (sym (c .before .changes-nothing .ensures) ∙ c .if1 .left, c .before .before .encode .ensures)
 
 pub state-after-spec : {M : Type 1} → statement M
 state-after-spec = tie.close (tie.spec (λ c κs. search needs) (λ c κs. search needs) returns returns-2)
