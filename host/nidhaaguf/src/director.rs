@@ -101,6 +101,17 @@ impl Director {
         self.row.len() / raw::WORDS_PER_SLOT
     }
 
+    /// How many connections there are, as of the latest accepted clock: the sum of all counts.
+    pub fn used(&self) -> u32 {
+        self.state.servers.iter().map(|server| server.count).sum()
+    }
+
+    /// A server's weight; None where no server has that number.
+    pub fn weight(&self, server: usize) -> Option<u16> {
+        let servers = self.state.servers.iter().take(self.state.service.servers as usize);
+        servers.map(|server| server.weight).nth(server)
+    }
+
     /// The state comes back from every call, refused ones too.
     fn accept(&mut self, answer: Answer) -> Result<Answer, Refusal> {
         self.state = answer.state;

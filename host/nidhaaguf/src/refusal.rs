@@ -80,7 +80,8 @@ impl Refusal {
         Refusal::ALL.into_iter().find(|refusal| refusal.number() == number)
     }
 
-    fn words(self) -> &'static str {
+    /// Why, in words, without the number.
+    pub fn words(self) -> &'static str {
         match self {
             Refusal::Sizes => "there must be 1 to 64 servers and 1 to 4,096 slots",
             Refusal::Service => "the virtual address and port must not be 0",

@@ -92,11 +92,30 @@ fn servers_that_are_not_there() {
 }
 
 #[test]
+fn weights_and_used_slots_are_told() {
+    let mut director = Director::set_up(&settings(2), 3).unwrap();
+    assert_eq!((director.weight(0), director.weight(1), director.used()), (Some(1), Some(1), 0));
+    director.set_weight(1, 65_535).unwrap();
+    assert_eq!((director.weight(0), director.weight(1)), (Some(1), Some(65_535)));
+    for server in [2, 63, 64, usize::MAX] {
+        assert_eq!(director.weight(server), None);
+    }
+    for port in 1..=3_u8 {
+        let mut packet = SYN;
+        packet[21] = port;
+        director.inbound(&mut packet, 10).unwrap();
+        assert_eq!(director.used(), u32::from(port));
+    }
+    assert_eq!(director.tick(910), Ok(3));
+    assert_eq!(director.used(), 0);
+}
+
+#[test]
 fn refusals_by_number() {
     for (place, refusal) in Refusal::ALL.into_iter().enumerate() {
         assert_eq!(refusal.number() as usize, place + 1);
         assert_eq!(Refusal::of_number(refusal.number()), Some(refusal));
-        assert!(refusal.to_string().ends_with(&format!("({})", place + 1)));
+        assert_eq!(refusal.to_string(), format!("{} ({})", refusal.words(), place + 1));
     }
     assert_eq!((Refusal::of_number(0), Refusal::of_number(16)), (None, None));
 }

@@ -1,0 +1,115 @@
+//! The operator's command: says one thing to a running director and prints its answer.
+
+use live::commands::{self, Command};
+use live::config::DEFAULT_SOCKET;
+use std::io::{self, BufRead, BufReader, ErrorKind, Write};
+use std::os::unix::net::UnixStream;
+use std::path::{Path, PathBuf};
+use std::process::ExitCode;
+use std::time::Duration;
+
+/// Longer than the director gives a client that keeps others waiting.
+const PATIENCE: Duration = Duration::from_secs(15);
+
+/// What went wrong.
+enum Failure {
+    /// The director refused: exit 1.
+    Refused(String),
+    /// Wrong usage, or no director there: exit 2.
+    Wrong(String),
+}
+
+fn main() -> ExitCode {
+    let arguments = std::env::args_os().skip(1).map(|word| word.to_string_lossy().into_owned());
+    match run(&arguments.collect::<Vec<String>>()) {
+        Ok(()) => ExitCode::SUCCESS,
+        Err(Failure::Refused(complaint)) => complain(&complaint, 1),
+        Err(Failure::Wrong(complaint)) => complain(&complaint, 2),
+    }
+}
+
+fn complain(complaint: &str, code: u8) -> ExitCode {
+    // nobody may be reading any more
+    let _ = writeln!(io::stderr(), "nidhaagufctl: {complaint}");
+    ExitCode::from(code)
+}
+
+fn run(arguments: &[String]) -> Result<(), Failure> {
+    let words: Vec<&str> = arguments.iter().map(String::as_str).collect();
+    let (path, words) = match words.as_slice() {
+        ["--socket", path, rest @ ..] => (PathBuf::from(path), rest),
+        ["--socket"] => return Err(Failure::Wrong("--socket: expected a path after it".into())),
+        rest => (PathBuf::from(DEFAULT_SOCKET), rest),
+    };
+    match words {
+        [] => Err(Failure::Wrong(format!("expected a command\n{}", help().trim_end()))),
+        ["--help" | "-h" | "help"] => print(&help()),
+        ["--version"] => print(concat!("nidhaagufctl ", env!("CARGO_PKG_VERSION"), "\n")),
+        words => {
+            // judged here, so that wrong usage is told from a refusal
+            let command = Command::read(words).map_err(Failure::Wrong)?;
+            ask(&path, &words.join(" "), command == Command::Watch)
+        }
+    }
+}
+
+fn help() -> String {
+    let usage = "usage: nidhaagufctl [--socket PATH] COMMAND, the socket being";
+    format!("{usage} {DEFAULT_SOCKET} unless told\n\n{}", commands::HELP)
+}
+
+/// Says the command's line and prints what comes back.
+fn ask(path: &Path, line: &str, watch: bool) -> Result<(), Failure> {
+    let mut stream = UnixStream::connect(path).map_err(|error| no_director(path, &error))?;
+    let lost = |error: io::Error| no_director(path, &error);
+    stream.set_read_timeout(Some(PATIENCE)).map_err(lost)?;
+    stream.set_write_timeout(Some(PATIENCE)).map_err(lost)?;
+    // turned away, it may be gone already, and yet have said why
+    let _ = stream.write_all(format!("{line}\n").as_bytes());
+    let mut answer = BufReader::new(stream);
+    let mut first = String::new();
+    answer.read_line(&mut first).map_err(lost)?;
+    match (first.trim_end(), first.strip_prefix("error: ")) {
+        ("ok", _) => {}
+        (_, Some(complaint)) => return Err(Failure::Refused(complaint.trim_end().into())),
+        _ => return Err(Failure::Wrong(format!("the director at {} is gone", path.display()))),
+    }
+    if watch {
+        answer.get_ref().set_read_timeout(None).map_err(lost)?;
+    }
+    copy_lines(&mut answer, path)?;
+    match watch {
+        true => Err(Failure::Wrong("the director has ended the watch".into())),
+        false => Ok(()),
+    }
+}
+
+fn copy_lines(answer: &mut impl BufRead, path: &Path) -> Result<(), Failure> {
+    let mut line = String::new();
+    while answer.read_line(&mut line).map_err(|error| no_director(path, &error))? > 0 {
+        print(&line)?;
+        line.clear();
+    }
+    Ok(())
+}
+
+fn no_director(path: &Path, error: &io::Error) -> Failure {
+    let why = match error.kind() {
+        ErrorKind::NotFound => "there is no such socket".to_string(),
+        ErrorKind::ConnectionRefused => "nobody listens on the socket".into(),
+        ErrorKind::PermissionDenied => "only the director's user and root may".into(),
+        ErrorKind::WouldBlock => format!("no answer within {} s", PATIENCE.as_secs()),
+        _ => error.to_string(),
+    };
+    Failure::Wrong(format!("can't talk to a director at {}: {why}", path.display()))
+}
+
+/// Prints at once; a reader that has gone, as `head` does, ends the program quietly.
+fn print(text: &str) -> Result<(), Failure> {
+    let mut out = io::stdout().lock();
+    match out.write_all(text.as_bytes()).and_then(|()| out.flush()) {
+        Ok(()) => Ok(()),
+        Err(error) if error.kind() == ErrorKind::BrokenPipe => std::process::exit(0),
+        Err(error) => Err(Failure::Wrong(format!("standard output can't be written: {error}"))),
+    }
+}

@@ -1,0 +1,103 @@
+//! The director's daemon: reads its configuration, opens its device and its control socket, and serves.
+
+use live::clock::Clock;
+use live::config::Config;
+use live::control::Control;
+use live::flags::{self, Flags, Request};
+use live::instance::Instance;
+use live::serve::serve;
+use live::socket::Socket;
+use live::tun::Tun;
+use live::{setup, system, words};
+use nidhaaguf::Director;
+use std::io::{self, Write};
+use std::process::ExitCode;
+use std::time::Instant;
+
+/// What ends the program early, and how.
+enum Failure {
+    /// The command line or the configuration: exit 2.
+    Wrong(String),
+    /// The machine: exit 1.
+    Failed(String),
+}
+
+fn main() -> ExitCode {
+    let request = flags::read(std::env::args_os().skip(1));
+    let done = match request {
+        Ok(Request::Help) => say(flags::HELP.trim_end()),
+        Ok(Request::Version) => say(concat!("nidhaagufd ", env!("CARGO_PKG_VERSION"))),
+        Ok(Request::Run(flags)) => run(flags),
+        Err(complaint) => Err(Failure::Wrong(complaint)),
+    };
+    match done {
+        Ok(()) => ExitCode::SUCCESS,
+        Err(Failure::Wrong(complaint)) => {
+            log(&complaint);
+            ExitCode::from(2)
+        }
+        Err(Failure::Failed(complaint)) => {
+            log(&complaint);
+            ExitCode::FAILURE
+        }
+    }
+}
+
+fn run(flags: Flags) -> Result<(), Failure> {
+    let (check, speed) = (flags.check, flags.clock_speed.unwrap_or(1));
+    let config = Config::load(flags).map_err(Failure::Wrong)?;
+    let director = setup::set_up(&config).map_err(Failure::Wrong)?;
+    if check {
+        return say("configuration is good");
+    }
+    if speed != 1 {
+        log(&format!("for drills only: the clock runs {speed} times as fast (--clock-speed)"));
+    }
+    start(&config, director, speed)
+}
+
+/// Opens all there is to open before anything is served.
+fn start(config: &Config, director: Director, speed: u32) -> Result<(), Failure> {
+    let signals = system::signals_as_file()
+        .map_err(|error| Failure::Failed(format!("signals can't be taken: {error}")))?;
+    let device = Tun::open(&config.device.value).map_err(Failure::Failed)?;
+    let socket = Socket::open(&config.socket.value).map_err(Failure::Failed)?;
+    let now = Instant::now();
+    let mut control = Control::new(socket, now);
+    let mut instance = Instance::new(config.settings(), director, Clock::new(now, speed));
+    say(&ready_line(config))?;
+    let ended = serve(&mut instance, &device, &mut control, &signals);
+    let counts = format!("clock {}; {}", instance.director().clock(), instance.counters());
+    match ended {
+        Ok(signal) => {
+            log(&format!("ended by {signal}; {counts}"));
+            Ok(())
+        }
+        Err(complaint) => Err(Failure::Failed(format!("{complaint}; {counts}"))),
+    }
+}
+
+fn ready_line(config: &Config) -> String {
+    let (service, protocol) = config.service.value;
+    format!(
+        "ready: {service} {}, {}, {} servers, {} slots, device {}, control socket {}",
+        words::protocol_name(protocol),
+        words::scheduler_name(config.scheduler),
+        config.servers.len(),
+        config.slots.value,
+        config.device.value,
+        config.socket.value.display(),
+    )
+}
+
+fn say(line: &str) -> Result<(), Failure> {
+    let mut out = io::stdout().lock();
+    writeln!(out, "{line}")
+        .and_then(|()| out.flush())
+        .map_err(|error| Failure::Failed(format!("standard output can't be written: {error}")))
+}
+
+fn log(line: &str) {
+    // a log that nobody takes must not end the director
+    let _ = writeln!(io::stderr(), "nidhaagufd: {line}");
+}

@@ -1,0 +1,175 @@
+//! The configuration: a file of settings, one to a line, and flags that override some.
+
+use crate::flags::Flags;
+use crate::words;
+use nidhaaguf::{Protocol, Scheduler, Server, Settings};
+use std::fs::File;
+use std::io::Read;
+use std::net::SocketAddrV4;
+use std::path::{Path, PathBuf};
+
+/// Where the control socket is unless told otherwise.
+pub const DEFAULT_SOCKET: &str = "/run/nidhaaguf.sock";
+const DEFAULT_DEVICE: &str = "nid0";
+const DEFAULT_SLOTS: usize = 4_096;
+
+/// More than any good file has: the wrong file is not read to its end.
+const MOST_BYTES: u64 = 65_536;
+
+/// A value and where it was given, for messages: "nidhaaguf.conf line 3" or "--slots".
+#[derive(Clone, Debug, PartialEq, Eq)]
+pub struct Given<T> {
+    /// The value.
+    pub value: T,
+    /// Where it was given.
+    pub place: String,
+}
+
+impl<T> Given<T> {
+    /// A value given at a place.
+    pub fn new(value: T, place: &str) -> Given<T> {
+        Given { value, place: place.to_string() }
+    }
+}
+
+/// A whole configuration. Whether the library takes it is for [`crate::setup`] to find out.
+#[derive(Clone, Debug, PartialEq, Eq)]
+pub struct Config {
+    /// The virtual address and port, and the protocol.
+    pub service: Given<(SocketAddrV4, Protocol)>,
+    /// How servers are picked.
+    pub scheduler: Scheduler,
+    /// Room for so many connections.
+    pub slots: Given<usize>,
+    /// The TUN device's name.
+    pub device: Given<String>,
+    /// The control socket's path.
+    pub socket: Given<PathBuf>,
+    /// The servers by number.
+    pub servers: Vec<Given<Server>>,
+}
+
+impl Config {
+    /// Reads the file that the flags name, and lets the flags override.
+    pub fn load(flags: Flags) -> Result<Config, String> {
+        let path = flags.config.clone().unwrap_or_default();
+        let text = text_of(&path).map_err(|error| format!("{}: {error}", path.display()))?;
+        Config::read(&text, &path.display().to_string(), flags)
+    }
+
+    /// Reads the text of the file called `name`, and lets the flags override.
+    pub fn read(text: &str, name: &str, flags: Flags) -> Result<Config, String> {
+        let mut draft = Draft::default();
+        for (index, line) in text.lines().enumerate() {
+            let place = format!("{name} line {}", index + 1);
+            draft.take(line, &place).map_err(|complaint| format!("{place}: {complaint}"))?;
+        }
+        draft.finish(flags, name)
+    }
+
+    /// What the library is set up with.
+    pub fn settings(&self) -> Settings {
+        let (service, protocol) = self.service.value;
+        let servers = self.servers.iter().map(|server| server.value).collect();
+        Settings { service, protocol, scheduler: self.scheduler, servers }
+    }
+}
+
+fn text_of(path: &Path) -> Result<String, String> {
+    let mut bytes = Vec::new();
+    let file = File::open(path).map_err(|error| format!("can't be opened: {error}"))?;
+    let read = file.take(MOST_BYTES + 1).read_to_end(&mut bytes);
+    match read.map_err(|error| format!("can't be read: {error}"))? as u64 {
+        0..=MOST_BYTES => Ok(String::from_utf8_lossy(&bytes).into_owned()),
+        _ => Err(format!("expected a configuration, got more than {MOST_BYTES} bytes")),
+    }
+}
+
+/// The settings of the lines read so far.
+#[derive(Default)]
+struct Draft {
+    service: Option<Given<(SocketAddrV4, Protocol)>>,
+    scheduler: Option<Given<Scheduler>>,
+    slots: Option<Given<usize>>,
+    device: Option<Given<String>>,
+    socket: Option<Given<PathBuf>>,
+    servers: Vec<Given<Server>>,
+}
+
+impl Draft {
+    /// Takes a line; the error is without its place.
+    fn take(&mut self, line: &str, place: &str) -> Result<(), String> {
+        let setting = line.split('#').next().unwrap_or_default();
+        let words: Vec<&str> = setting.split_whitespace().collect();
+        let Some((name, values)) = words.split_first() else { return Ok(()) };
+        match (*name, values) {
+            ("service", [at, protocol]) => {
+                let value = (words::address(at)?, words::protocol(protocol)?);
+                put(&mut self.service, value, place)
+            }
+            ("scheduler", [word]) => put(&mut self.scheduler, words::scheduler(word)?, place),
+            ("slots", [word]) => put(&mut self.slots, words::slots(word)?, place),
+            ("device", [word]) => put(&mut self.device, word.to_string(), place),
+            ("socket", [word]) => put(&mut self.socket, PathBuf::from(word), place),
+            ("server", [at, "weight", weight]) => {
+                let server = Server { at: words::address(at)?, weight: words::weight(weight)? };
+                self.servers.push(Given::new(server, place));
+                Ok(())
+            }
+            _ => Err(expected(name, setting.trim())),
+        }
+    }
+
+    fn finish(self, flags: Flags, name: &str) -> Result<Config, String> {
+        let missing = |setting| format!("{name}: no {setting} is given: {}", form(setting));
+        let by_default = |setting| format!("{setting} by default");
+        if self.servers.is_empty() {
+            return Err(missing("server"));
+        }
+        let scheduler = flags.scheduler.or(self.scheduler).ok_or_else(|| missing("scheduler"))?;
+        let slots = || Given::new(DEFAULT_SLOTS, &by_default("slots"));
+        let device = || Given::new(DEFAULT_DEVICE.into(), &by_default("device"));
+        let socket = || Given::new(DEFAULT_SOCKET.into(), &by_default("socket"));
+        Ok(Config {
+            service: self.service.ok_or_else(|| missing("service"))?,
+            scheduler: scheduler.value,
+            slots: flags.slots.or(self.slots).unwrap_or_else(slots),
+            device: flags.device.or(self.device).unwrap_or_else(device),
+            socket: flags.socket.or(self.socket).unwrap_or_else(socket),
+            servers: self.servers,
+        })
+    }
+}
+
+/// Each setting but the servers is given once.
+fn put<T>(setting: &mut Option<Given<T>>, value: T, place: &str) -> Result<(), String> {
+    match setting {
+        Some(given) => Err(format!("given a second time: it is given at {} already", given.place)),
+        None => {
+            *setting = Some(Given::new(value, place));
+            Ok(())
+        }
+    }
+}
+
+fn expected(name: &str, setting: &str) -> String {
+    match form(name) {
+        "" => format!(
+            "expected a setting: service, scheduler, slots, device, socket or server, got {name:?}"
+        ),
+        form => format!("{form}, got {setting:?}"),
+    }
+}
+
+/// What a setting looks like; empty for a name that is none.
+fn form(name: &str) -> &'static str {
+    match name {
+        "service" => "expected `service ADDRESS:PORT tcp` or `service ADDRESS:PORT udp`",
+        "scheduler" => "expected `scheduler NAME`, as `scheduler least-connection`",
+        "slots" => "expected `slots NUMBER`",
+        "device" => "expected `device NAME`",
+        "socket" => "expected `socket PATH`, without spaces",
+        "server" => "expected `server ADDRESS:PORT weight NUMBER`",
+        _ => "",
+    }
+}

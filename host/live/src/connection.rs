@@ -1,0 +1,161 @@
+//! One client of the control socket: it says one command and reads the answer.
+
+use crate::system::Waited;
+use std::io::{ErrorKind, Read, Write};
+use std::os::unix::net::UnixStream;
+use std::time::{Duration, Instant};
+
+/// The longest command, without its line end.
+pub const MOST_COMMAND: usize = 256;
+
+/// A client must have said its command, and then have read its answer, within this time.
+pub const PATIENCE: Duration = Duration::from_secs(5);
+
+/// How far a client has come.
+#[derive(Debug, PartialEq, Eq)]
+enum Stage {
+    Asking,
+    Answering,
+    /// It gets the status again when the change after `seen` makes it other than `shown`.
+    Watching {
+        seen: u64,
+        shown: String,
+    },
+    Over,
+}
+
+/// A client's connection. No call on it waits.
+#[derive(Debug)]
+pub struct Connection {
+    stream: UnixStream,
+    stage: Stage,
+    input: Vec<u8>,
+    input_ended: bool,
+    output: Vec<u8>,
+    deadline: Instant,
+}
+
+impl Connection {
+    /// A client that has connected now, by a stream that doesn't block.
+    pub fn new(stream: UnixStream, now: Instant) -> Connection {
+        Connection {
+            stream,
+            stage: Stage::Asking,
+            input: Vec::new(),
+            input_ended: false,
+            output: Vec::new(),
+            deadline: now + PATIENCE,
+        }
+    }
+
+    /// What to wait for.
+    pub fn waited(&self) -> Waited {
+        let reads = match self.stage {
+            Stage::Asking => !self.has_command(),
+            Stage::Watching { .. } => true,
+            Stage::Answering | Stage::Over => false,
+        };
+        Waited::new(&self.stream, reads, !self.output.is_empty())
+    }
+
+    /// Whether a whole command is there, and not answered yet.
+    pub fn has_command(&self) -> bool {
+        let whole = self.input_ended || self.input.len() > MOST_COMMAND;
+        self.stage == Stage::Asking && (whole || self.input.contains(&b'\n'))
+    }
+
+    /// The command.
+    pub fn command(&self) -> Result<String, String> {
+        let line = self.input.split(|&byte| byte == b'\n').next().unwrap_or_default();
+        match line.len() {
+            0..=MOST_COMMAND => Ok(String::from_utf8_lossy(line).into_owned()),
+            _ => Err(format!("expected a command of at most {MOST_COMMAND} bytes")),
+        }
+    }
+
+    /// Answers the command; the connection ends when the answer is read.
+    pub fn answer(&mut self, text: &str, now: Instant) {
+        self.stage = Stage::Answering;
+        self.send(text, now);
+    }
+
+    /// Answers a watch, and remembers what was shown.
+    pub fn watch(&mut self, text: &str, seen: u64, shown: &str, now: Instant) {
+        self.stage = Stage::Watching { seen, shown: shown.to_string() };
+        self.send(text, now);
+    }
+
+    /// Whether it watches.
+    pub fn is_watching(&self) -> bool {
+        matches!(self.stage, Stage::Watching { .. })
+    }
+
+    /// Whether it watches, has read all that was sent, and may not have seen the latest change.
+    pub fn is_behind(&self, latest: u64) -> bool {
+        self.output.is_empty()
+            && matches!(self.stage, Stage::Watching { seen, .. } if seen != latest)
+    }
+
+    /// Whether a watch has shown just that.
+    pub fn has_shown(&self, status: &str) -> bool {
+        matches!(&self.stage, Stage::Watching { shown, .. } if shown == status)
+    }
+
+    /// When it must have come further; a watch that has read all may wait as long as it likes.
+    pub fn deadline(&self) -> Option<Instant> {
+        let waits = self.is_watching() && self.output.is_empty();
+        (!waits).then_some(self.deadline)
+    }
+
+    /// Whether it is to be closed.
+    pub fn is_over(&self, now: Instant) -> bool {
+        self.stage == Stage::Over || self.deadline().is_some_and(|deadline| deadline <= now)
+    }
+
+    /// Reads and writes what is possible now.
+    pub fn exchange(&mut self) {
+        if matches!(self.stage, Stage::Asking | Stage::Watching { .. }) {
+            self.receive();
+        }
+        self.write();
+    }
+
+    fn send(&mut self, text: &str, now: Instant) {
+        self.output.extend_from_slice(text.as_bytes());
+        self.deadline = now + PATIENCE;
+        self.write();
+    }
+
+    fn receive(&mut self) {
+        let mut bytes = [0; MOST_COMMAND + 1];
+        let room = bytes.len().saturating_sub(self.input.len());
+        let watching = self.is_watching();
+        match self.stream.read(&mut bytes[..if watching { 1 } else { room }]) {
+            // a watcher has nothing more to say: it has gone, or is no watcher
+            Ok(_) if watching => self.stage = Stage::Over,
+            Ok(0) if self.input.is_empty() => self.stage = Stage::Over,
+            Ok(0) => self.input_ended = true,
+            Ok(length) => self.input.extend_from_slice(&bytes[..length]),
+            Err(error) => self.fail(error.kind()),
+        }
+    }
+
+    fn write(&mut self) {
+        if self.output.is_empty() {
+            return;
+        }
+        match self.stream.write(&self.output) {
+            Ok(length) => drop(self.output.drain(..length)),
+            Err(error) => self.fail(error.kind()),
+        }
+        if self.output.is_empty() && self.stage == Stage::Answering {
+            self.stage = Stage::Over;
+        }
+    }
+
+    fn fail(&mut self, kind: ErrorKind) {
+        if !matches!(kind, ErrorKind::WouldBlock | ErrorKind::Interrupted) {
+            self.stage = Stage::Over;
+        }
+    }
+}

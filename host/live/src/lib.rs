@@ -1,0 +1,26 @@
+//! The live director: the proved library between clients and replicas, on a TUN device.
+//!
+//! `nidhaagufd` reads packets from the device, hands each to the library, and writes back those that it accepts.
+//! `nidhaagufctl` talks to it over a Unix socket. All decisions about packets are the library's.
+
+#![deny(unsafe_code)]
+#![warn(missing_docs)]
+
+pub mod clock;
+pub mod commands;
+pub mod config;
+pub mod connection;
+pub mod control;
+pub mod counters;
+pub mod flags;
+pub mod instance;
+pub mod metrics;
+pub mod packets;
+pub mod serve;
+pub mod setup;
+pub mod socket;
+pub mod status;
+#[allow(unsafe_code)]
+pub mod system;
+pub mod tun;
+pub mod words;

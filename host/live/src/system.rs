@@ -1,0 +1,179 @@
+//! Linux calls that the standard library doesn't offer, and all the unsafe code of this crate.
+
+use std::ffi::c_void;
+use std::fs::File;
+use std::io::{Error, ErrorKind, Result};
+use std::mem::size_of;
+use std::os::fd::{AsRawFd, FromRawFd, OwnedFd};
+use std::os::unix::net::UnixStream;
+use std::time::Duration;
+
+/// The signal of Ctrl-C.
+pub const SIGINT: i32 = 2;
+/// The signal by which a process is asked to end.
+pub const SIGTERM: i32 = 15;
+/// Opens a file so that reads and writes never wait.
+pub const O_NONBLOCK: i32 = 0o4000;
+
+const TUNSETIFF: u64 = 0x4004_54CA;
+/// IFF_TUN: packets without a link header. IFF_NO_PI: nor the four bytes that TUN puts in front by default.
+const TUN_PLAIN: i16 = 0x0001 | 0x1000;
+const SIG_BLOCK: i32 = 0;
+const SFD_NONBLOCK_CLOEXEC: i32 = 0o4000 | 0o2_000_000;
+const SOL_SOCKET: i32 = 1;
+const SO_SNDBUF: i32 = 7;
+const SO_PEERCRED: i32 = 17;
+
+/// C's `struct ifreq`, as TUNSETIFF reads it.
+#[repr(C)]
+struct InterfaceRequest {
+    name: [u8; 16],
+    flags: i16,
+    rest: [u8; 22],
+}
+
+/// C's `sigset_t`.
+#[repr(C)]
+struct SignalSet([u64; 16]);
+
+/// C's `struct ucred`.
+#[repr(C)]
+#[derive(Default)]
+struct Credentials {
+    process: i32,
+    user: u32,
+    group: u32,
+}
+
+/// C's `struct pollfd`: a file to wait for.
+#[repr(C)]
+#[derive(Clone, Copy, Debug)]
+pub struct Waited {
+    descriptor: i32,
+    events: i16,
+    happened: i16,
+}
+
+const POLLIN: i16 = 1;
+const POLLOUT: i16 = 4;
+
+extern "C" {
+    fn ioctl(descriptor: i32, request: u64, ...) -> i32;
+    fn poll(entries: *mut Waited, count: u64, milliseconds: i32) -> i32;
+    fn sigemptyset(set: *mut SignalSet) -> i32;
+    fn sigaddset(set: *mut SignalSet, signal: i32) -> i32;
+    fn pthread_sigmask(how: i32, set: *const SignalSet, old: *mut SignalSet) -> i32;
+    fn signalfd(descriptor: i32, set: *const SignalSet, flags: i32) -> i32;
+    fn getsockopt(
+        descriptor: i32,
+        level: i32,
+        name: i32,
+        value: *mut c_void,
+        length: *mut u32,
+    ) -> i32;
+    fn setsockopt(descriptor: i32, level: i32, name: i32, value: *const c_void, length: u32)
+        -> i32;
+    fn umask(mask: u32) -> u32;
+    fn geteuid() -> u32;
+}
+
+/// Makes an open /dev/net/tun the TUN device of that name, of at most 15 bytes.
+pub fn set_interface(tun: &File, name: &str) -> Result<()> {
+    let mut request = InterfaceRequest { name: [0; 16], flags: TUN_PLAIN, rest: [0; 22] };
+    // one byte less than there is: the name ends in a zero
+    match request.name[..15].get_mut(..name.len()) {
+        Some(place) => place.copy_from_slice(name.as_bytes()),
+        None => return Err(ErrorKind::InvalidInput.into()),
+    }
+    // SAFETY: the file is open, and the request reads and writes one ifreq, which lives through the call.
+    done(unsafe { ioctl(tun.as_raw_fd(), TUNSETIFF, &mut request) })
+}
+
+impl Waited {
+    /// Waits until the file can be read, written, or either; its end is always told.
+    pub fn new(file: &impl AsRawFd, read: bool, write: bool) -> Waited {
+        let events = if read { POLLIN } else { 0 } | if write { POLLOUT } else { 0 };
+        Waited { descriptor: file.as_raw_fd(), events, happened: 0 }
+    }
+
+    /// Whether something happened.
+    pub fn is_ready(&self) -> bool {
+        self.happened != 0
+    }
+}
+
+/// Waits until one of the files is ready or the time is over, which is rounded up to milliseconds.
+pub fn wait(files: &mut [Waited], time: Duration) -> Result<()> {
+    let milliseconds = time.as_nanos().div_ceil(1_000_000).min(i32::MAX as u128) as i32;
+    // SAFETY: the pointer and the count are those of a slice that is lent for the call.
+    let result = unsafe { poll(files.as_mut_ptr(), files.len() as u64, milliseconds) };
+    match done(result) {
+        // nothing was told then
+        Err(error) if error.kind() == ErrorKind::Interrupted => {
+            files.iter_mut().for_each(|file| file.happened = 0);
+            Ok(())
+        }
+        other => other,
+    }
+}
+
+/// Keeps SIGINT and SIGTERM from ending the process: they are read from the file instead, 128 bytes each, of which the
+/// first four are the signal's number.
+pub fn signals_as_file() -> Result<File> {
+    let mut set = SignalSet([0; 16]);
+    // SAFETY: the set is a whole sigset_t that lives through the calls; the old mask isn't asked for; the descriptor that
+    // a success gives is new and nobody else's.
+    unsafe {
+        sigemptyset(&mut set);
+        sigaddset(&mut set, SIGINT);
+        sigaddset(&mut set, SIGTERM);
+        match pthread_sigmask(SIG_BLOCK, &set, std::ptr::null_mut()) {
+            0 => {}
+            number => return Err(Error::from_raw_os_error(number)),
+        }
+        let descriptor = signalfd(-1, &set, SFD_NONBLOCK_CLOEXEC);
+        done(descriptor)?;
+        Ok(File::from(OwnedFd::from_raw_fd(descriptor)))
+    }
+}
+
+/// The user of the process at the other end, as of its connecting.
+pub fn peer_user(stream: &UnixStream) -> Result<u32> {
+    let mut peer = Credentials::default();
+    let mut length = size_of::<Credentials>() as u32;
+    let value = (&raw mut peer).cast();
+    // SAFETY: the value is a whole ucred of the length told, and both live through the call.
+    done(unsafe { getsockopt(stream.as_raw_fd(), SOL_SOCKET, SO_PEERCRED, value, &mut length) })?;
+    Ok(peer.user)
+}
+
+/// Limits the bytes that the kernel keeps for a peer that doesn't read.
+pub fn limit_send_buffer(stream: &UnixStream, bytes: i32) -> Result<()> {
+    let value = (&raw const bytes).cast();
+    let length = size_of::<i32>() as u32;
+    // SAFETY: the value is an int of the length told, and lives through the call.
+    done(unsafe { setsockopt(stream.as_raw_fd(), SOL_SOCKET, SO_SNDBUF, value, length) })
+}
+
+/// Runs a function that makes files, with the permission bits of `mask` kept from them.
+pub fn with_umask<T>(mask: u32, make: impl FnOnce() -> T) -> T {
+    // SAFETY: umask takes any number and always succeeds.
+    let before = unsafe { umask(mask) };
+    let made = make();
+    // SAFETY: as above.
+    unsafe { umask(before) };
+    made
+}
+
+/// The user that this process acts as.
+pub fn own_user() -> u32 {
+    // SAFETY: geteuid takes nothing and always succeeds.
+    unsafe { geteuid() }
+}
+
+fn done(result: i32) -> Result<()> {
+    match result {
+        0.. => Ok(()),
+        _ => Err(Error::last_os_error()),
+    }
+}

@@ -1,0 +1,150 @@
+//! A running daemon, and what is said to it.
+
+use crate::link;
+use std::fs;
+use std::io::{BufRead, BufReader, ErrorKind, Read, Write};
+use std::os::unix::fs::PermissionsExt;
+use std::os::unix::net::UnixStream;
+use std::path::PathBuf;
+use std::process::{Child, Command, Stdio};
+use std::time::{Duration, Instant};
+
+/// Long enough for a busy machine; nothing waits so long where all is well.
+pub const PATIENCE: Duration = Duration::from_secs(10);
+
+/// A directory that other users may look into, removed in the end.
+pub struct Place(pub PathBuf);
+
+impl Place {
+    pub fn new(name: &str) -> Place {
+        let own = format!("nidhaaguf-{}-{name}", std::process::id());
+        let path = std::env::temp_dir().join(own);
+        fs::create_dir(&path).unwrap();
+        fs::set_permissions(&path, fs::Permissions::from_mode(0o755)).unwrap();
+        Place(path)
+    }
+
+    pub fn file(&self, name: &str) -> String {
+        self.0.join(name).to_str().unwrap().to_string()
+    }
+}
+
+impl Drop for Place {
+    fn drop(&mut self) {
+        let _ = fs::remove_dir_all(&self.0);
+    }
+}
+
+/// The daemon's command for a configuration in that place; the device and the socket are of the place too.
+pub fn command(place: &Place, config: &str, device: &str, flags: &[&str]) -> Command {
+    let path = place.file("nidhaaguf.conf");
+    fs::write(&path, config).unwrap();
+    let mut command = Command::new(env!("CARGO_BIN_EXE_nidhaagufd"));
+    command.args(["--config", &path, "--device", device, "--socket", &place.file("sock")]);
+    command.args(flags).stdin(Stdio::null()).stdout(Stdio::piped()).stderr(Stdio::piped());
+    command
+}
+
+/// A daemon that said it is ready, with its device up.
+pub struct Daemon {
+    child: Child,
+    pub socket: String,
+    pub ready: String,
+}
+
+impl Daemon {
+    pub fn start(place: &Place, config: &str, flags: &[&str]) -> Daemon {
+        let mut child = command(place, config, "nid0", flags).spawn().unwrap();
+        let mut ready = String::new();
+        let mut out = BufReader::new(child.stdout.take().unwrap());
+        out.read_line(&mut ready).unwrap();
+        if !ready.starts_with("ready: ") {
+            let output = child.wait_with_output().unwrap();
+            panic!("not ready: {ready:?} {}", String::from_utf8_lossy(&output.stderr));
+        }
+        link::ip("link set nid0 up");
+        child.stdout = Some(out.into_inner());
+        Daemon { child, socket: place.file("sock"), ready }
+    }
+
+    pub fn connect(&self) -> UnixStream {
+        let stream = UnixStream::connect(&self.socket).unwrap();
+        stream.set_read_timeout(Some(PATIENCE)).unwrap();
+        stream.set_write_timeout(Some(PATIENCE)).unwrap();
+        stream
+    }
+
+    /// The whole answer to a command: `ok` or `error: ...`, and the text.
+    pub fn ask(&self, command: &str) -> String {
+        let mut stream = self.connect();
+        stream.write_all(format!("{command}\n").as_bytes()).unwrap();
+        let mut answer = Vec::new();
+        match stream.read_to_end(&mut answer) {
+            // so ends an answer to a client that has said more than a command
+            Err(error) if error.kind() == ErrorKind::ConnectionReset => {}
+            other => drop(other.unwrap()),
+        }
+        String::from_utf8(answer).unwrap()
+    }
+
+    /// The text of an answer that must be good.
+    pub fn text(&self, command: &str) -> String {
+        let answer = self.ask(command);
+        answer.strip_prefix("ok\n").unwrap_or_else(|| panic!("{command}: {answer}")).to_string()
+    }
+
+    /// Sends a signal by its name.
+    pub fn signal(&self, name: &str) {
+        let process = self.child.id().to_string();
+        let done = Command::new("kill").args(["-s", name, &process]).status().unwrap();
+        assert!(done.success());
+    }
+
+    /// Waits for its end.
+    pub fn wait(mut self) -> Outcome {
+        outcome(&mut self.child)
+    }
+
+    /// Ends it by a signal, as an operator would: it must leave nothing behind.
+    pub fn end_by(self, signal: &str) {
+        let socket = self.socket.clone();
+        self.signal(signal);
+        let (code, out, log) = self.wait();
+        assert_eq!((code, out.as_str()), (Some(0), ""), "{log}");
+        let last = log.lines().last().unwrap_or_default();
+        assert!(last.starts_with(&format!("nidhaagufd: ended by SIG{signal}; clock ")), "{log}");
+        assert!(last.contains("; inbound ") && last.contains("; outbound "), "{log}");
+        assert!(!PathBuf::from(socket).exists(), "the socket file is still there");
+    }
+}
+
+impl Drop for Daemon {
+    /// After a failed test.
+    fn drop(&mut self) {
+        let _ = self.child.kill();
+        let _ = self.child.wait();
+    }
+}
+
+/// An exit code, the output and the log.
+pub type Outcome = (Option<i32>, String, String);
+
+/// Runs a command to its end, which must come in time.
+pub fn output(command: &mut Command) -> Outcome {
+    outcome(&mut command.stdout(Stdio::piped()).stderr(Stdio::piped()).spawn().unwrap())
+}
+
+fn outcome(child: &mut Child) -> Outcome {
+    let deadline = Instant::now() + PATIENCE;
+    while child.try_wait().unwrap().is_none() {
+        if Instant::now() > deadline {
+            child.kill().unwrap();
+            panic!("it doesn't end: {:?}", child.wait());
+        }
+        std::thread::sleep(Duration::from_millis(1));
+    }
+    let (mut out, mut log) = (String::new(), String::new());
+    child.stdout.take().unwrap().read_to_string(&mut out).unwrap();
+    child.stderr.take().unwrap().read_to_string(&mut log).unwrap();
+    (child.wait().unwrap().code(), out, log)
+}

@@ -1,0 +1,81 @@
+//! Starts that can't be, and ends.
+
+use crate::daemon::{command, output, Daemon, Place, PATIENCE};
+use crate::link::{self, Link};
+use crate::model::{CONFIG, VIRTUAL};
+use reference::packets::{tcp, SYN};
+use std::fs;
+use std::path::Path;
+use std::time::{Duration, Instant};
+
+/// A second director on the same device or the same socket doesn't start, and the first serves on.
+pub fn second_director() {
+    let place = Place::new("second");
+    let daemon = Daemon::start(&place, CONFIG, &[]);
+    let (code, out, log) = output(&mut command(&place, CONFIG, "nid0", &[]));
+    assert_eq!((code, out.as_str()), (Some(1), ""));
+    assert!(log.starts_with("nidhaagufd: the device nid0 can't be created: "), "{log}");
+    let (code, out, log) = output(&mut command(&place, CONFIG, "nid1", &[]));
+    assert_eq!((code, out.as_str()), (Some(1), ""));
+    assert!(log.ends_with(": another director answers there\n"), "{log}");
+    assert_eq!(daemon.ask("count 0"), "ok\n0\n");
+    daemon.end_by("TERM");
+}
+
+/// A director that was killed leaves its socket; the next one takes its place.
+pub fn stale_socket() {
+    let place = Place::new("stale");
+    let killed = Daemon::start(&place, CONFIG, &[]);
+    killed.signal("KILL");
+    assert_eq!(killed.wait().0, None);
+    assert!(Path::new(&place.file("sock")).exists());
+    let daemon = Daemon::start(&place, CONFIG, &[]);
+    assert_eq!(daemon.ask("count 0"), "ok\n0\n");
+    daemon.end_by("INT");
+}
+
+/// A file that is no socket is left alone.
+pub fn file_in_the_way() {
+    let place = Place::new("file");
+    fs::write(place.file("sock"), "precious").unwrap();
+    let (code, out, log) = output(&mut command(&place, CONFIG, "nid0", &[]));
+    assert_eq!((code, out.as_str()), (Some(1), ""));
+    assert!(log.ends_with(": a file that isn't a socket is there already\n"), "{log}");
+    assert_eq!(fs::read_to_string(place.file("sock")).unwrap(), "precious");
+}
+
+/// A director can't go on without its device.
+pub fn deleted_device() {
+    let place = Place::new("deleted");
+    let daemon = Daemon::start(&place, CONFIG, &[]);
+    link::ip("link delete nid0");
+    let (code, out, log) = daemon.wait();
+    assert_eq!((code, out.as_str()), (Some(1), ""));
+    assert!(log.starts_with("nidhaagufd: the device nid0 is gone: "), "{log}");
+    assert!(!Path::new(&place.file("sock")).exists());
+}
+
+/// With a fast clock: an idle connection stays for 900 s of it, then it goes and is counted.
+pub fn idle_connections() {
+    let place = Place::new("idle");
+    let daemon = Daemon::start(&place, CONFIG, &["--clock-speed", "1000"]);
+    let started = Instant::now();
+    Link::open("nid0").send(&tcp((0x0A00_0001, 40_000), VIRTUAL, SYN).build());
+    let opened = "nidhaaguf_packets_total{way=\"inbound\",answer=\"opened\"} 1";
+    await_metric(&daemon, opened);
+    await_metric(&daemon, "nidhaaguf_idle_removed_total 1");
+    assert!(started.elapsed() >= Duration::from_millis(900), "removed early");
+    assert_eq!(daemon.ask("count 0"), "ok\n0\n");
+    daemon.signal("TERM");
+    let (code, _, log) = daemon.wait();
+    assert_eq!(code, Some(0));
+    assert!(log.starts_with("nidhaagufd: for drills only: the clock runs 1000 times"), "{log}");
+}
+
+fn await_metric(daemon: &Daemon, line: &str) {
+    let deadline = Instant::now() + PATIENCE;
+    while !daemon.text("metrics").lines().any(|found| found == line) {
+        assert!(Instant::now() < deadline, "{line} doesn't come");
+        std::thread::sleep(Duration::from_millis(1));
+    }
+}

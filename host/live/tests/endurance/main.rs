@@ -1,0 +1,66 @@
+//! The real daemon under damage, floods, a full table, a device that goes down, and bad clients.
+//!
+//! Each test makes a network namespace of its own for its thread, so nothing outside sees a packet. What the daemon should
+//! answer to each packet is told by the second implementation (the crate `reference`), which shares no code with it.
+
+mod clients;
+mod counts;
+mod daemon;
+mod damage;
+mod endings;
+mod link;
+mod model;
+mod packets;
+mod rig;
+
+use rig::Rig;
+
+/// Runs a test in a network namespace of its own, or says that it was left out.
+fn in_own_network(name: &str, test: impl FnOnce()) {
+    match link::enter_own_network() {
+        Ok(()) => test(),
+        Err(reason) => link::say(&format!("{name} WAS LEFT OUT: {reason}")),
+    }
+}
+
+#[test]
+fn packets_of_all_kinds() {
+    in_own_network("endurance of packets", || {
+        let mut rig = Rig::start("packets");
+        packets::damaged_packets(&mut rig);
+        packets::other_services(&mut rig);
+        packets::full_table(&mut rig);
+        packets::every_weight_zero(&mut rig);
+        packets::device_down_and_up(&mut rig);
+        rig.daemon.end_by("TERM");
+    });
+}
+
+#[test]
+fn clients_of_all_kinds() {
+    in_own_network("endurance of the control socket", || {
+        let mut rig = Rig::start("clients");
+        let silent = clients::SilentClient::new(&rig);
+        let watcher = clients::Watcher::new(&rig);
+        clients::wrong_commands(&mut rig);
+        clients::garbage(&mut rig);
+        clients::two_hundred(&mut rig);
+        clients::too_many_watchers(&mut rig);
+        clients::other_users(&mut rig);
+        clients::a_watch_that_reads(&mut rig);
+        watcher.must_be_closed(&mut rig);
+        silent.must_be_closed(&mut rig);
+        rig.daemon.end_by("INT");
+    });
+}
+
+#[test]
+fn starts_and_ends() {
+    in_own_network("endurance of starts and ends", || {
+        endings::second_director();
+        endings::stale_socket();
+        endings::file_in_the_way();
+        endings::deleted_device();
+        endings::idle_connections();
+    });
+}

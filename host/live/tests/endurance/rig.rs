@@ -1,0 +1,116 @@
+//! A daemon, the link to its device, and the model that tells what it should do.
+
+use crate::counts::Counts;
+use crate::daemon::{Daemon, Place, PATIENCE};
+use crate::link::Link;
+use crate::model::{Model, CONFIG, SLOTS, VIRTUAL};
+use reference::packets::{self, ACK, SYN};
+use std::time::{Duration, Instant};
+
+/// Fewer than the device's queue takes.
+const BATCH: usize = 200;
+
+const CLOCK: &str = "nidhaaguf_clock_seconds";
+
+pub struct Rig {
+    pub daemon: Daemon,
+    pub link: Link,
+    pub model: Model,
+    pub place: Place,
+    next_port: u16,
+}
+
+impl Rig {
+    pub fn start(name: &str) -> Rig {
+        let place = Place::new(name);
+        let daemon = Daemon::start(&place, CONFIG, &[]);
+        let expected = format!(
+            "ready: 192.0.2.10:5432 tcp, weighted-round-robin, 2 servers, {SLOTS} slots, device nid0, control socket {}\n",
+            daemon.socket
+        );
+        assert_eq!(daemon.ready, expected);
+        let link = Link::open("nid0");
+        let mut rig = Rig { daemon, link, model: Model::new(), place, next_port: 1_024 };
+        rig.must_serve();
+        rig
+    }
+
+    /// Sends packets; what comes back, and all counts, must be what the model says.
+    pub fn send(&mut self, packets: &[Vec<u8>]) {
+        for batch in packets.chunks(BATCH) {
+            let mut expected = Vec::new();
+            for packet in batch {
+                self.link.send(packet);
+                expected.extend(self.model.take(packet));
+            }
+            self.must_receive(expected);
+            self.await_packets();
+        }
+        self.check();
+    }
+
+    fn must_receive(&self, mut expected: Vec<Vec<u8>>) {
+        let mut received: Vec<_> =
+            expected.iter().map_while(|_| self.link.receive(PATIENCE)).collect();
+        expected.sort();
+        received.sort();
+        assert_eq!(received, expected);
+    }
+
+    /// Waits until the daemon has counted all packets.
+    pub fn await_packets(&self) {
+        let deadline = Instant::now() + PATIENCE;
+        while self.counts().packets() < self.model.packets() {
+            assert!(Instant::now() < deadline, "{:?}\n{:?}", self.counts(), self.model.counts());
+            std::thread::sleep(Duration::from_millis(1));
+        }
+    }
+
+    /// All counts, and the table, must be the model's; and nothing was written beside what was expected.
+    pub fn check(&self) {
+        let expected = self.model.counts();
+        assert_eq!(self.counts().without(CLOCK), expected);
+        assert_eq!(self.link.receive(Duration::ZERO), None);
+        let status = self.daemon.text("status");
+        let used = expected.get("nidhaaguf_slots_used");
+        assert!(status.contains(&format!(", {used} of {SLOTS} slots used, ")), "{status}");
+    }
+
+    pub fn counts(&self) -> Counts {
+        Counts::of_metrics(&self.daemon.text("metrics"))
+    }
+
+    /// A connection of a new client is opened and kept: both packets come out rewritten, and their checksums verify.
+    pub fn must_serve(&mut self) {
+        let client = (0x0A00_0001, self.new_port());
+        for flags in [SYN, ACK] {
+            let packet = packets::tcp(client, VIRTUAL, flags).build();
+            self.link.send(&packet);
+            let expected = self.model.take(&packet).expect("the model refuses");
+            let received = self.link.receive(PATIENCE).expect("no packet comes out");
+            assert_eq!(received, expected);
+            assert!(packets::header_verifies(&received) && packets::transport_verifies(&received));
+        }
+        self.end_all();
+    }
+
+    /// Ends all connections by resets.
+    pub fn end_all(&mut self) {
+        let resets = self.model.resets();
+        self.send(&resets);
+        assert_eq!(self.model.counts().get("nidhaaguf_slots_used"), 0);
+    }
+
+    /// Sets a weight, of the daemon and of the model.
+    pub fn set_weight(&mut self, server: u32, weight: u16) {
+        let answer = self.daemon.text(&format!("weight {server} {weight}"));
+        assert!(answer.contains(&format!(": weight {weight}, ")), "{answer}");
+        self.model.set_weight(server, weight);
+    }
+
+    /// A client's port that wasn't used yet.
+    pub fn new_port(&mut self) -> u16 {
+        self.next_port += 1;
+        self.next_port
+    }
+}

@@ -1,0 +1,10 @@
+//! The parts of the live director that need neither root nor a device.
+
+mod clock;
+mod command_line;
+mod commands;
+mod config;
+mod connection;
+mod packets;
+mod support;
+mod texts;

@@ -1,0 +1,32 @@
+//! What the tests share: an instance without a device, and the packets it is given.
+
+use live::clock::Clock;
+use live::config::Config;
+use live::flags::Flags;
+use live::instance::Instance;
+use live::setup;
+use reference::packets::{self, End, SYN};
+use std::time::Instant;
+
+pub const CONFIG: &str = "\
+# the service
+service 192.0.2.10:5432 tcp
+scheduler least-connection
+server 10.1.0.5:6432 weight 1   # number 0
+server 10.2.0.5:6432 weight 1
+server 10.30.0.5:6432 weight 20
+";
+
+pub const VIRTUAL: End = (0xC000_020A, 5432);
+pub const SERVER: End = (0x0A01_0005, 6432);
+
+pub fn instance(start: Instant) -> Instance {
+    let config = Config::read(CONFIG, "test.conf", Flags::default()).unwrap();
+    let director = setup::set_up(&config).unwrap();
+    Instance::new(config.settings(), director, Clock::new(start, 1))
+}
+
+/// A SYN from a client that is told by its port.
+pub fn syn(port: u16) -> Vec<u8> {
+    packets::tcp((0x0A00_0001, port), VIRTUAL, SYN).build()
+}
