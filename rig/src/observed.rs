@@ -193,7 +193,9 @@ impl Ending {
         let zero = looks.find(|look| count(look) == 0);
         let zero = zero.ok_or(Failure(format!("replica {server} never read zero")))?;
         let last = self.book.last_packet(server, zero.before, &self.clock);
-        let last = last.ok_or(Failure(format!("no packet of replica {server} was captured")))?;
+        let (least, most) =
+            last.ok_or(Failure(format!("no packet of replica {server} was captured")))?;
+        let last = if least == most { least.to_string() } else { format!("{least} to {most}") };
         timeline.tell(format!(
             "replica {server}: last packet at clock {last}, first read as zero at clock {}; no connection was ever moved",
             zero.status.clock

@@ -180,13 +180,15 @@ impl PacketBook {
         self.connections.iter().filter(|connection| connection.server == server).count()
     }
 
-    /// The last second of the director's clock at which a packet of the connections came that were opened on that server before
-    /// that time.
-    pub fn last_packet(&self, server: usize, before: f64, clock: &Clock) -> Option<i64> {
+    /// The least and the greatest second of the director's clock at which the last packet can have come of the connections
+    /// that were opened on that server before that time.
+    pub fn last_packet(&self, server: usize, before: f64, clock: &Clock) -> Option<(i64, i64)> {
         let here = self.connections.iter().filter(|connection| connection.server == server);
         let here = here.filter(|connection| connection.opened.handed < before);
-        here.map(|connection| clock.seconds(connection.last.handed, connection.last.written).1)
-            .max()
+        let last = here
+            .map(|connection| connection.last)
+            .max_by(|a, b| a.written.total_cmp(&b.written))?;
+        Some(clock.seconds(last.handed, last.written))
     }
 
     /// Holds every count of every look against the book. Tells for how many of them only one number was right.
