@@ -186,19 +186,21 @@ pub struct Ending {
 }
 
 impl Ending {
-    /// Tells when the count of that server was first read as zero, and when the last packet before that had come.
+    /// Tells when the count of that server was first read as zero, and when the last packet had come that it waited for.
     pub fn tell_zero(&self, server: usize, timeline: &Timeline) -> Result<(), Failure> {
         let count = |look: &&Look| look.status.rows[server].connections;
         let mut looks = self.looks.iter().skip_while(|look| count(look) == 0);
         let zero = looks.find(|look| count(look) == 0);
         let zero = zero.ok_or(Failure(format!("replica {server} never read zero")))?;
-        let last = self.book.last_packet(server, zero.before, &self.clock);
-        let (least, most) =
-            last.ok_or(Failure(format!("no packet of replica {server} was captured")))?;
-        let last = if least == most { least.to_string() } else { format!("{least} to {most}") };
+        let last = match self.book.last_packet(server, zero.before, &self.clock) {
+            Some((least, most)) if least == most => format!("last packet at clock {least}"),
+            Some((least, most)) => format!("last packet at clock {least} to {most}"),
+            None => "no packet to wait for".into(),
+        };
         timeline.tell(format!(
-            "replica {server}: last packet at clock {last}, first read as zero at clock {}; no connection was ever moved",
-            zero.status.clock
+            "replica {server}: {last}, first read as zero at clock {} (ended by RST: {}); no connection was ever moved",
+            zero.status.clock,
+            self.book.resets(server)
         ));
         Ok(())
     }

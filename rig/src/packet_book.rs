@@ -180,15 +180,26 @@ impl PacketBook {
         self.connections.iter().filter(|connection| connection.server == server).count()
     }
 
-    /// The least and the greatest second of the director's clock at which the last packet can have come of the connections
-    /// that were opened on that server before that time.
+    /// The connections that were opened on that server before that time and weren't ended by an RST: the least and the
+    /// greatest second of the director's clock at which their last packet can have come.
     pub fn last_packet(&self, server: usize, before: f64, clock: &Clock) -> Option<(i64, i64)> {
-        let here = self.connections.iter().filter(|connection| connection.server == server);
+        let here = self
+            .connections
+            .iter()
+            .filter(|connection| connection.server == server && !connection.reset);
         let here = here.filter(|connection| connection.opened.handed < before);
         let last = here
             .map(|connection| connection.last)
             .max_by(|a, b| a.written.total_cmp(&b.written))?;
         Some(clock.seconds(last.handed, last.written))
+    }
+
+    /// How many connections on that server were ended by an RST.
+    pub fn resets(&self, server: usize) -> usize {
+        self.connections
+            .iter()
+            .filter(|connection| connection.server == server && connection.reset)
+            .count()
     }
 
     /// Holds every count of every look against the book. Tells for how many of them only one number was right.
