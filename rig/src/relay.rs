@@ -1,6 +1,7 @@
 //! What the impairing relay does with each packet: it loses it, doubles it, holds it back behind later ones, or passes it on.
 //! The choices come from a seeded generator; where the packets come from and go to is the caller's affair.
 
+use random::Rng;
 use std::fmt;
 use std::time::{Duration, Instant};
 
@@ -54,24 +55,6 @@ impl Counts {
     }
 }
 
-/// The generator called SplitMix64.
-struct Generator(u64);
-
-impl Generator {
-    fn next(&mut self) -> u64 {
-        self.0 = self.0.wrapping_add(0x9E37_79B9_7F4A_7C15);
-        let mut z = self.0;
-        z = (z ^ (z >> 30)).wrapping_mul(0xBF58_476D_1CE4_E5B9);
-        z = (z ^ (z >> 27)).wrapping_mul(0x94D0_49BB_1331_11EB);
-        z ^ (z >> 31)
-    }
-
-    /// A number below `bound`.
-    fn below(&mut self, bound: u64) -> u64 {
-        self.next() % bound
-    }
-}
-
 /// A packet that waits for later ones of its flow.
 struct Held {
     packet: Vec<u8>,
@@ -83,7 +66,7 @@ struct Held {
 
 /// The relay: packets go in one by one, and come out by way of `send`.
 pub struct Relay {
-    generator: Generator,
+    generator: Rng,
     rates: Rates,
     held: Vec<Held>,
     counts: Counts,
@@ -92,7 +75,7 @@ pub struct Relay {
 impl Relay {
     /// A relay whose choices follow from the seed and the packets' order alone.
     pub fn new(seed: u64, rates: Rates) -> Relay {
-        Relay { generator: Generator(seed), rates, held: Vec::new(), counts: Counts::default() }
+        Relay { generator: Rng::new(seed), rates, held: Vec::new(), counts: Counts::default() }
     }
 
     /// What was done so far.
@@ -109,7 +92,7 @@ impl Relay {
     pub fn take(&mut self, packet: &[u8], now: Instant, send: &mut dyn FnMut(&[u8])) {
         self.counts.read += 1;
         let Rates { loss, duplicate, reorder } = self.rates;
-        let drawn = self.generator.below(1000);
+        let drawn = self.generator.below(1000) as u64;
         if drawn < loss {
             self.counts.lost += 1;
         } else if drawn < loss + duplicate {
@@ -117,7 +100,7 @@ impl Relay {
             self.pass(packet, send);
             send(packet);
         } else if drawn < loss + duplicate + reorder {
-            let behind = 1 + self.generator.below(3);
+            let behind = 1 + self.generator.below(3) as u64;
             self.held.push(Held {
                 packet: packet.to_vec(),
                 behind,

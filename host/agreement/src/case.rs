@@ -2,9 +2,9 @@
 
 use crate::call::Call;
 use crate::choose::{self, setup, Mix};
-use crate::rng::Rng;
 use crate::world::World;
 use crate::worlds::{breaks::BREAKS, junk, sound};
+use random::Rng;
 
 /// What sort of case it is.
 #[derive(Clone, Copy, Debug, PartialEq, Eq)]

@@ -13,7 +13,6 @@ pub mod edges;
 pub mod lent;
 pub mod options;
 pub mod report;
-pub mod rng;
 pub mod run;
 pub mod shorten;
 pub mod sides;

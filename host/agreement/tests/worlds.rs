@@ -1,10 +1,10 @@
 //! The states that are drawn are what they are said to be.
 
 use agreement::call::{Call, Told};
-use agreement::rng::Rng;
 use agreement::sides::{from_library, to_library, Library, Side};
 use agreement::world::World;
 use agreement::worlds::{breaks::BREAKS, junk, sound};
+use random::Rng;
 
 fn tick_now(world: &World) -> Told {
     let (mut state, mut row) = (world.state, world.row.clone());

@@ -1,8 +1,8 @@
 //! Clocks: mostly now or soon, often at an idle limit's edge, sometimes earlier or far ahead.
 
 use super::packet::used_slot;
-use crate::rng::Rng;
 use crate::world::World;
+use random::Rng;
 
 /// Seconds after last-seen at which something may happen, and those beside them.
 pub const EDGES: [u32; 9] = [119, 120, 121, 299, 300, 301, 899, 900, 901];

@@ -1,6 +1,6 @@
 //! Packets with something wrong: a field, a bit, their length, or everything.
 
-use crate::rng::Rng;
+use random::Rng;
 use reference::packets::{self, Plan, Sum};
 
 /// The bytes of a packet, damaged.

@@ -7,8 +7,8 @@ pub mod setup;
 pub mod sums;
 
 use crate::call::Call;
-use crate::rng::Rng;
 use crate::world::World;
+use random::Rng;
 use reference::data::UDP;
 use reference::{packets, PLACES};
 

@@ -1,8 +1,8 @@
 //! Packets, with a bias to those that belong and to edges.
 
 use super::{damage, sums};
-use crate::rng::Rng;
 use crate::world::World;
+use random::Rng;
 use reference::data::UDP;
 use reference::packets::{self, End, Plan, ACK, FIN, RST, SYN};
 use reference::table::Slot;

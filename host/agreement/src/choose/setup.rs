@@ -1,8 +1,8 @@
 //! Settings: those that are accepted, and those with one thing wrong.
 
 use crate::call::{Call, Lending};
-use crate::rng::Rng;
 use crate::world::World;
+use random::Rng;
 use reference::{Server, Service, PLACES};
 
 /// A setup that is accepted.

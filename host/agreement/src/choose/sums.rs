@@ -1,7 +1,7 @@
 //! Checksums 0 and FFFF in every form: as they come, as they leave, verifying or not.
 
-use crate::rng::Rng;
 use crate::world::World;
+use random::Rng;
 use reference::checksum::{edit_address, edit_endpoint, fold, sum};
 use reference::data::UDP;
 use reference::packets::{End, Plan, Sum};

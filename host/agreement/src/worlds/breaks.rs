@@ -1,7 +1,7 @@
 //! Breaking one rule of a sound state and row at a time.
 
-use crate::rng::Rng;
 use crate::world::World;
+use random::Rng;
 use reference::data::UDP;
 use reference::table::FREE;
 use reference::PLACES;

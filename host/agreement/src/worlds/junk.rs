@@ -1,7 +1,7 @@
 //! States and rows of arbitrary words.
 
-use crate::rng::Rng;
 use crate::world::World;
+use random::Rng;
 use reference::{Server, Service, State, Walk};
 
 /// Arbitrary words, some of them likely ones.

@@ -2,8 +2,8 @@
 
 use crate::choose::packet::some_client;
 use crate::choose::setup;
-use crate::rng::Rng;
 use crate::world::World;
+use random::Rng;
 use reference::data::{ROUND_ROBIN, UDP, WEIGHTED_ROUND_ROBIN};
 use reference::table::Slot;
 use reference::{Server, State, Walk, PLACES};

@@ -1,16 +1,17 @@
 //! Packets that the daemon must outlast.
 
-use crate::damage::{damaged, Random};
+use crate::damage::damaged;
 use crate::link;
 use crate::model::{SERVERS, SLOTS, VIRTUAL};
 use crate::rig::Rig;
+use random::Rng;
 use reference::packets::{tcp, udp, ACK, SYN};
 
 const FLOOD: usize = 20_000;
 
 /// A flood of damaged packets: each is counted by its number, and the good ones among them pass.
 pub fn damaged_packets(rig: &mut Rig) {
-    let mut random = Random(6);
+    let mut random = Rng::new(6);
     let flood: Vec<_> = (0..FLOOD).map(|_| damaged(&mut random)).collect();
     rig.send(&flood);
     let counts = rig.model.counts();
@@ -28,10 +29,10 @@ pub fn damaged_packets(rig: &mut Rig) {
 /// Packets to other ports, addresses and protocols, and from servers that nobody asked.
 pub fn other_services(rig: &mut Rig) {
     let client = (0x0A00_0001, 40_000);
-    let mut random = Random(10);
+    let mut random = Rng::new(10);
     let packets: Vec<_> = (0..1_000)
         .map(|_| match random.below(5) {
-            0 => tcp(client, (VIRTUAL.0, random.next() as u16 | 0x8000), SYN).build(),
+            0 => tcp(client, (VIRTUAL.0, random.number() as u16 | 0x8000), SYN).build(),
             1 => tcp(client, (VIRTUAL.0 ^ 1, VIRTUAL.1), SYN).build(),
             2 => udp(client, VIRTUAL).build(),
             3 => tcp(SERVERS[0], client, SYN | ACK).build(),

@@ -1,13 +1,18 @@
-//! A small seeded generator (splitmix64).
+//! A small seeded generator (splitmix64), for tests and for links that are to be bad in the same way again.
 
-#[derive(Clone)]
+#![forbid(unsafe_code)]
+
+/// The generator.
+#[derive(Clone, Debug)]
 pub struct Rng(u64);
 
 impl Rng {
+    /// What follows is the same for the same seed.
     pub fn new(seed: u64) -> Rng {
         Rng(seed)
     }
 
+    /// Any number.
     pub fn number(&mut self) -> u64 {
         self.0 = self.0.wrapping_add(0x9E37_79B9_7F4A_7C15);
         let mut z = self.0;
@@ -26,10 +31,12 @@ impl Rng {
         self.below(1_000) < chance
     }
 
+    /// One of these, of which there is at least one.
     pub fn one_of<T: Copy>(&mut self, all: &[T]) -> T {
         all[self.below(all.len())]
     }
 
+    /// So many bytes.
     pub fn bytes(&mut self, length: usize) -> Vec<u8> {
         (0..length).map(|_| self.number() as u8).collect()
     }
