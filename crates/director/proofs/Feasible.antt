@@ -6,12 +6,11 @@ use mathlib.Core.Path.{_≡_}
 use native.Mathlib.Omega.{arith}
 use lib.ListN.{length}
 use Rattle.packet.specs.Redirect.{Redirectable}
-use Rattle.table.specs.Slots.{slots, slotAt, IsRow}
+use Rattle.table.specs.Slots.{slots, IsRow}
 use Rattle.table.specs.Sound.{slotsSound}
 use Rattle.table.proofs.Rows.{length-slots}
 use Rattle.table.proofs.Soundness.{count-slots, used-server}
 use Rattle.table.proofs.Tables.{sound-table}
-use Rattle.servers.specs.Servers.{countAt}
 use Rattle.servers.proofs.Endpoints.{places}
 use Rattle.director.specs.declared.state.Director.{Director}
 use Rattle.director.specs.declared.segment.Segment.{Segment}
@@ -20,7 +19,7 @@ use Rattle.director.specs.Judge.{soundOf}
 use Rattle.director.specs.Decide.{decided}
 use Rattle.director.specs.Carry.{Ready, Feasible}
 use Rattle.director.proofs.Sound.{Sound, sound-parts}
-use Rattle.director.proofs.Decisions.{HasConnection, Grounded, decided-grounded}
+use Rattle.director.proofs.Decisions.{Grounded, decided-grounded}
 
 module _ (d : Director) (row p : List ℕ) (can : Redirectable (d .service .protocol) p) where
   module _ (sound : Sound d row) where
@@ -30,23 +29,20 @@ module _ (d : Director) (row p : List ℕ) (can : Redirectable (d .service .prot
     room : d .service .servers ≤ length (d .servers)
     room = places (d .servers) (d .service .servers) (sound .settings .set)
 
-    ready : (k i : ℕ) → k < length (slots row) → i < d .service .servers → Ready d row p k i
-    ready k i h server =
-        record { whole = table .0; within = omega (arith, length-slots row); place = omega (arith, sound .settings .most); packet = can }
-
-    -- a used slot names a server, which counts it
-    named : (k : ℕ) → HasConnection row k → let i = slotAt row k .server .0 in (i < d .service .servers) × (1 ≤ countAt (d .servers) i)
-    named k has = used-server (d .service .protocol) (d .service .servers) (d .clock) (slots row) (d .servers) (table .1) k (has .within) (has .used) room
+    ready : (k : ℕ) → k < length (slots row) → Ready d row p k
+    ready k h = record { whole = table .0; within = omega (arith, length-slots row); packet = can }
 
     -- a connection that is ended is counted, and the slots that a count counts are few
     by-decision : (a : Decision) → Grounded d row a → Feasible d row p a
     by-decision (Decision.Refuse why) whole = whole
-    by-decision (Decision.Keep k) has = ready (k .0) _ (has .within) (named (k .0) has .0)
-    by-decision (Decision.End k) has = (ready (k .0) _ (has .within) (named (k .0) has .0), named (k .0) has .1)
+    by-decision (Decision.Keep k) has = ready (k .0) (has .within)
+    by-decision (Decision.End k) has =
+        let counted = used-server (d .service .protocol) (d .service .servers) (d .clock) (slots row) (d .servers) (table .1) (k .0) (has .within) (has .used) room in
+        (ready (k .0) (has .within), counted .1)
     by-decision (Decision.Open k i walk) new =
         let place : i .0 < length (d .servers) = omega (arith, new .server, room) in
         let count = count-slots (d .service .protocol) (d .service .servers) (d .clock) (slots row) (d .servers) (table .1) (i .0) place in
-        (ready (k .0) (i .0) (new .within) (new .server), omega (arith, count, table .0 .most, length-slots row))
+        (ready (k .0) (new .within), omega (arith, count, table .0 .most, length-slots row))
 
   pub feasible : (m : Segment) → soundOf d row ≡ true → Feasible d row p (decided d (slots row) m)
   feasible m sound = let s = sound-parts d row sound in by-decision s (decided d (slots row) m) (decided-grounded d row s m)

@@ -85,17 +85,15 @@ carriedOut d l p m (Decision.Keep k) = keptHeld d l p m (k .0)
 carriedOut d l p m (Decision.End k) = endedHeld d l p m (k .0)
 carriedOut d l p m (Decision.Open k i walk) = openedHeld d l p m (k .0) i walk
 
--- what a function that writes slot k and the packet of server i asks for: a whole row that has the slot, one of the 64 places, and a packet that
--- can be redirected
-pub record Ready (d : Director) (row p : List ℕ) (k i : ℕ) : Type 0 where
+-- what a function that writes slot k and the packet asks for: a whole row that has the slot, and a packet that can be redirected
+pub record Ready (d : Director) (row p : List ℕ) (k : ℕ) : Type 0 where
   pub whole : IsRow row
   pub within : k < length row / wordsPerSlot
-  pub place : i < 64
   pub packet : Redirectable (d .service .protocol) p
 
 -- what is asked for where a decision is carried out
 abbrev pub Feasible : Director → List ℕ → List ℕ → Decision → Type 0
 Feasible d row p (Decision.Refuse why) = IsRow row
-Feasible d row p (Decision.Keep k) = Ready d row p (k .0) (slotAt row (k .0) .server .0)
-Feasible d row p (Decision.End k) = Ready d row p (k .0) (slotAt row (k .0) .server .0) × (1 ≤ countAt (d .servers) (slotAt row (k .0) .server .0))
-Feasible d row p (Decision.Open k i walk) = Ready d row p (k .0) (i .0) × (countAt (d .servers) (i .0) < 4294967295)
+Feasible d row p (Decision.Keep k) = Ready d row p (k .0)
+Feasible d row p (Decision.End k) = Ready d row p (k .0) × (1 ≤ countAt (d .servers) (slotAt row (k .0) .server .0))
+Feasible d row p (Decision.Open k i walk) = Ready d row p (k .0) × (countAt (d .servers) (i .0) < 4294967295)

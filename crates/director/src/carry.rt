@@ -15,6 +15,7 @@ use servers::Server;
 use servers::ServerNo;
 use servers::lower;
 use servers::raise;
+use servers::server_at;
 use table::slot::Slot;
 use table::slot::SlotNo;
 use table::slot::free_slot;
@@ -113,15 +114,14 @@ fn pass(
     no: ServerNo,
     change: Change,
 ) -> Outcome
-    requires { ⌜ Redirectable (director .service .protocol) (now packet) × (no .0 < 64) ⌝ }
+    requires { ⌜ Redirectable (director .service .protocol) (now packet) ⌝ }
     ensures packet { λ r. ⌜ now (packet .exit) ≡ forwarded director (no .0) (now (packet .entry)) (segment .sender) ⌝ }
     ensures outcome { λ r. ⌜ r ≡ passedBy director no change ⌝ }
 {
     let service = director.service;
-    let at = no.0 as usize;
-    let server = director.servers[at];
+    let servers = director.servers;
     let sender = segment.sender;
-    forward(packet, service, server, sender);
+    forward(packet, service, server_at(servers, no), sender);
     Outcome {
         answer: Answer::Passed(no, change),
         director,
@@ -136,7 +136,7 @@ fn keep(
     segment: Segment,
     k: SlotNo,
 ) -> Outcome
-    requires { ⌜ Ready director (now row) (now packet) (k .0) (slotAt (now row) (k .0) .server .0) ⌝ }
+    requires { ⌜ Ready director (now row) (now packet) (k .0) ⌝ }
     ensures { λ r. ⌜ result r (now (row .exit)) (now (packet .exit)) ≡ inWords (keptHeld director (slots (now (row .entry))) (now (packet .entry)) segment (k .0)) ⌝ }
 {
     let slot = slot_at(row, k);
@@ -153,7 +153,7 @@ fn end(
     segment: Segment,
     k: SlotNo,
 ) -> Outcome
-    requires { ⌜ Ready director (now row) (now packet) (k .0) (slotAt (now row) (k .0) .server .0) ⌝ }
+    requires { ⌜ Ready director (now row) (now packet) (k .0) ⌝ }
     requires { ⌜ 1 ≤ countAt (director .servers) (slotAt (now row) (k .0) .server .0) ⌝ }
     ensures { λ r. ⌜ result r (now (row .exit)) (now (packet .exit)) ≡ inWords (endedHeld director (slots (now (row .entry))) (now (packet .entry)) segment (k .0)) ⌝ }
 {
@@ -176,7 +176,7 @@ fn open(
     no: ServerNo,
     walk: Walk,
 ) -> Outcome
-    requires { ⌜ Ready director (now row) (now packet) (k .0) (no .0) ⌝ }
+    requires { ⌜ Ready director (now row) (now packet) (k .0) ⌝ }
     requires { ⌜ countAt (director .servers) (no .0) < 4294967295 ⌝ }
     ensures { λ r. ⌜ result r (now (row .exit)) (now (packet .exit)) ≡ inWords (openedHeld director (slots (now (row .entry))) (now (packet .entry)) segment (k .0) no walk) ⌝ }
 {

@@ -12,8 +12,7 @@ lower-requires c κs =
 pass-requires : tie.Need-pass-requires
 pass-requires c κs =
     let a = c .before .before .before .before .before .before .before .before .before .before .before .before .before .before in
-    let slot = c .before .before .before .before .before .before .before .before .before .before .slot-at .ensures in
-    (rw (c .before .with-servers .ensures) (a .pre .0 .packet), rw slot (a .pre .0 .place))
+    rw (c .before .with-servers .ensures) (a .pre .0 .packet)
 
 returns : tie.Need-returns
 returns c =

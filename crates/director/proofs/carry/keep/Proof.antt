@@ -4,11 +4,6 @@ use borrow.Author.Needs.{needs}
 use Rattle.director.proofs.carry.keep.Statement.{statement}
 use Rattle.director.proofs.carry.keep.Tie as tie
 
-pass-requires : tie.Need-pass-requires
-pass-requires c κs =
-    let ready = c .before .before .before .before .before .before .before .before .before .before .before .pre in
-    (ready .packet, rw (c .before .before .before .before .before .before .before .slot-at .ensures) (ready .place))
-
 returns : tie.Need-returns
 returns c =
     simp (
@@ -26,7 +21,7 @@ keep-spec =
     (λ c κs. search needs)
     (λ c κs. search needs)
     (λ c κs. search needs)
-    pass-requires
+    (λ c κs. search needs)
     (λ c. search needs)
     (λ c. search needs)
     returns)

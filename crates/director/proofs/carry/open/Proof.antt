@@ -5,9 +5,7 @@ use Rattle.director.proofs.carry.open.Statement.{statement}
 use Rattle.director.proofs.carry.open.Tie as tie
 
 pass-requires : tie.Need-pass-requires
-pass-requires c κs =
-    let ready = c .before .before .before .before .before .before .before .before .before .before .before .pre .0 in
-    (rw (c .before .with-servers .ensures) (ready .packet), ready .place)
+pass-requires c κs = rw (c .before .with-servers .ensures) (c .before .before .before .before .before .before .before .before .before .before .before .pre .0 .packet)
 
 returns : tie.Need-returns
 returns c =
