@@ -5,11 +5,13 @@ ghost use Prim.Native.Nat.{_<_, _≤_, _-_, _/_};
 ghost use lib.ListN.{length};
 ghost use Rattle.lists.specs.Tests.{countOf};
 ghost use Rattle.table.specs.Slots.{wordsPerSlot, slots, words, slotAt};
-ghost use Rattle.table.specs.Expire.{idleLimit, isIdle, cleared, loweredBy};
+ghost use Rattle.table.specs.Expire.{idleLimit, isIdle, loweredBy};
+ghost use Rattle.table.specs.Changes.{idleRemoved};
 ghost use Rattle.table.specs.Sound.{tableSound};
+use crate::change::free_slot;
+use crate::slot::SEEN;
 use crate::slot::SlotNo;
 use crate::slot::WORDS;
-use crate::slot::free_slot;
 use crate::slot::server_no_at;
 use servers::Server;
 
@@ -52,7 +54,7 @@ fn is_idle_at(row: &[u32], k: SlotNo, protocol: u8, clock: u32, recent: u32) -> 
     ensures { λ r. ⌜ r ≡ isIdle protocol clock (slotAt (now (row .entry)) (k .0)) ⌝ }
 {
     let at = WORDS * k.0;
-    let seen = row[at + 4];
+    let seen = row[at + SEEN];
     if recent < seen {
         return false;
     }
@@ -66,7 +68,7 @@ fn is_idle_at(row: &[u32], k: SlotNo, protocol: u8, clock: u32, recent: u32) -> 
 // Every idle connection is removed from the row, and from its server's count.
 pub fn expire(row: &mut [u32], servers: [Server; 64], protocol: u8, n: u32, clock: u32) -> Expired
     requires { ⌜ (n ≤ 64) × (tableSound protocol n clock (now row) servers ≡ true) ⌝ }
-    ensures row { λ r. ⌜ now (row .exit) ≡ words (cleared (isIdle protocol clock) (slots (now (row .entry)))) ⌝ }
+    ensures row { λ r. ⌜ now (row .exit) ≡ words (idleRemoved protocol clock (slots (now (row .entry)))) ⌝ }
     ensures servers { λ r. ⌜ r .servers ≡ loweredBy (isIdle protocol clock) (slots (now (row .entry))) servers ⌝ }
     ensures removed { λ r. ⌜ r .removed ≡ countOf (isIdle protocol clock) (slots (now (row .entry))) ⌝ }
 {

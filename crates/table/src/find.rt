@@ -4,6 +4,8 @@ ghost use Prim.Native.Nat.{_<_, _/_};
 ghost use lib.ListN.{length};
 ghost use Rattle.table.specs.Slots.{wordsPerSlot, slots, slotAt, isUnused};
 ghost use Rattle.table.specs.Find.{ofClient, firstFrom};
+use crate::slot::ADDRESS;
+use crate::slot::PORT;
 use crate::slot::SlotNo;
 use crate::slot::WORDS;
 use crate::slot::is_unused_at;
@@ -21,10 +23,10 @@ fn of_client_at(row: &[u32], k: SlotNo, address: u32, port: u16) -> bool
     ensures { λ r. ⌜ r ≡ ofClient address port (slotAt (now (row .entry)) (k .0)) ⌝ }
 {
     let at = WORDS * k.0;
-    if row[at + 2] != port as u32 {
+    if row[at + PORT] != port as u32 {
         return false;
     }
-    if row[at + 1] != address {
+    if row[at + ADDRESS] != address {
         return false;
     }
     row[at] != 0
