@@ -33,16 +33,16 @@ module _ (d : Director) (row p : List ℕ) (can : Redirectable (d .service .prot
     ready k h = record { whole = table .0; within = omega (arith, length-slots row); packet = can }
 
     -- a connection that is ended is counted, and the slots that a count counts are few
-    by-decision : (a : Decision) → Grounded d row a → Feasible d row p a
-    by-decision (Decision.Refuse why) whole = whole
-    by-decision (Decision.Keep k) has = ready (k .0) (has .within)
-    by-decision (Decision.End k) has =
-        let counted = used-server (d .service .protocol) (d .service .servers) (d .clock) (slots row) (d .servers) (table .1) (k .0) (has .within) (has .used) room in
-        (ready (k .0) (has .within), counted .1)
-    by-decision (Decision.Open k i walk) new =
+    by-decision : (m : Segment) (a : Decision) → Grounded d (slots row) m a → Feasible d row p a
+    by-decision m (Decision.Refuse why) grounds = table .0
+    by-decision m (Decision.Keep k) its = ready (k .0) (its .lowest .within)
+    by-decision m (Decision.End k) its =
+        let counted = used-server (d .service .protocol) (d .service .servers) (d .clock) (slots row) (d .servers) (table .1) (k .0) (its .lowest .within) (its .used) room in
+        (ready (k .0) (its .lowest .within), counted .1)
+    by-decision m (Decision.Open k i walk) new =
         let place : i .0 < length (d .servers) = omega (arith, new .server, room) in
         let count = count-slots (d .service .protocol) (d .service .servers) (d .clock) (slots row) (d .servers) (table .1) (i .0) place in
-        (ready (k .0) (new .within), omega (arith, count, table .0 .most, length-slots row))
+        (ready (k .0) (new .lowest .within), omega (arith, count, table .0 .most, length-slots row))
 
   pub feasible : (m : Segment) → soundOf d row ≡ true → Feasible d row p (decided d (slots row) m)
-  feasible m sound = let s = sound-parts d row sound in by-decision s (decided d (slots row) m) (decided-grounded d row s m)
+  feasible m sound = let s = sound-parts d row sound in by-decision s m (decided d (slots row) m) (decided-grounded d row s m)

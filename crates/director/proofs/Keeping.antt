@@ -1,13 +1,13 @@
--- An accepted setup makes a sound state, whatever the state before, and a refused one gives state and row back; weight, count and tick
--- calls leave a sound state sound, whatever they answer. Assumes nothing.
+-- What setup, weight, count and tick calls leave, of any state. Assumes nothing.
 use Prim.Native.Nat.{ℕ, _<_}
-use mathlib.Core.Bool.{Bool, true, false, false≢true}
+use mathlib.Core.Bool.{Bool, true, false}
 use mathlib.Core.List.{List, []}
-use mathlib.Core.Path.{_≡_, refl, sym, ap, _∙_}
+use mathlib.Core.Logic.{⊎-elim}
+use mathlib.Core.Path.{_≡_, refl, _∙_}
 use borrow.Author.Tests.{ltb-true, ltb-false}
 use lib.Dec.{ltb}
 use lib.ListN.{length, length-set}
-use Rattle.lists.proofs.Cases.{by-test, both, conjunction}
+use Rattle.lists.proofs.Cases.{truth, by-test, both, conjunction}
 use Rattle.servers.specs.declared.Server.{Server}
 use Rattle.servers.specs.Servers.{countAt, withWeight}
 use Rattle.servers.specs.Fresh.{freshServers}
@@ -22,20 +22,17 @@ use Rattle.table.proofs.Soundness.{sound-counted, all-sound, count-naming}
 use Rattle.director.specs.declared.state.Service.{Service}
 use Rattle.director.specs.declared.state.Director.{Director}
 use Rattle.director.specs.declared.state.Refusal.{Refusal}
-use Rattle.director.specs.declared.state.Answer.{Answer}
 use Rattle.director.specs.declared.judge.Verdict.{Verdict}
-use Rattle.director.specs.State.{Result, refusal, inWords}
+use Rattle.director.specs.State.{lent, Result, inWords, refusal}
 use Rattle.director.specs.Judge.{settingsJudged, soundOf}
 use Rattle.director.specs.Setup.{newDirector, onVerdict, setupOf}
 use Rattle.director.specs.Control.{numberJudged, weighed, onWeight, weightOf, onCount, countCallOf}
 use Rattle.director.specs.Tick.{tickOnClock, tickOf}
 use Rattle.director.proofs.Sound.{Accepted, judged, sound-parts, sound-words}
+use Rattle.director.proofs.Leaving.{Leaves, leaves-all, leaves-changed}
+use Rattle.director.proofs.Refusals.{EarlyVerdict, settings-early}
 use Rattle.director.proofs.Changes.{sound-with}
 use Rattle.director.proofs.Settled.{settled-sound}
-
--- the state and the row that a call leaves are sound
-abbrev pub LeavesSound : Result → Type 0
-LeavesSound r = soundOf (r .director) (r .row) ≡ true
 
 -- 1. Setup
 
@@ -48,31 +45,16 @@ new-sound g given row a =
     (start-in-range (g .scheduler) servers n (a .some))
     (empty-sound row (is-row row (a .whole)) (g .protocol) n 0 servers (λ j h. fresh-count given n j (a .most)))
 
-abbrev isRefused : Answer → Bool
-isRefused (Answer.Refused why) = true
-isRefused Answer.Done = false
-isRefused (Answer.Number m) = false
-isRefused (Answer.Passed i change) = false
-
-pub setup-sound : (d : Director) (g : Service) (given : List Server) (row : List ℕ)
-    → let r = setupOf d g given row in r .answer ≡ Answer.Done → LeavesSound r
+pub setup-leaves : (d : Director) (g : Service) (given : List Server) (row : List ℕ) → Leaves d (lent row []) (setupOf d g given row)
 unfolding setupOf
-setup-sound d g given row = on-verdict _ refl
+setup-leaves d g given row = on-verdict (settingsJudged g given row) refl (settings-early g given row)
   where
-    on-verdict : (v : Verdict) → settingsJudged g given row ≡ v → let r = onVerdict d g given row v in r .answer ≡ Answer.Done → LeavesSound r
-    on-verdict Verdict.Accepted e done = new-sound g given row (judged g given row e)
-    on-verdict (Verdict.Refused why) e done = absurd (false≢true (sym (ap isRefused done)))
+    on-verdict : (v : Verdict) → settingsJudged g given row ≡ v → EarlyVerdict v → Leaves d (lent row []) (onVerdict d g given row v)
+    on-verdict Verdict.Accepted e early =
+        leaves-changed d (lent row []) (onVerdict d g given row Verdict.Accepted) refl (new-sound g given row (judged g given row e))
+    on-verdict (Verdict.Refused why) e early = leaves-all d (lent row []) why (early .back)
 
-pub setup-refused : (d : Director) (g : Service) (given : List Server) (row : List ℕ) (why : Refusal)
-    → let r = setupOf d g given row in r .answer ≡ Answer.Refused why → r ≡ refusal why d row []
-unfolding setupOf
-setup-refused d g given row why = on-verdict (settingsJudged g given row)
-  where
-    on-verdict : (v : Verdict) → let r = onVerdict d g given row v in r .answer ≡ Answer.Refused why → r ≡ refusal why d row []
-    on-verdict Verdict.Accepted done = absurd (false≢true (ap isRefused done))
-    on-verdict (Verdict.Refused other) same = rw same
-
--- 2. Weight and count
+-- 2. Weight, count and tick of a sound state
 
 -- a table stays sound with servers of the same counts
 same-counts : (protocol n clock : ℕ) (row : List ℕ) (s t : List Server) → length t ≡ length s → ((j : ℕ) → countAt t j ≡ countAt s j)
@@ -94,24 +76,50 @@ module _ (d : Director) (row : List ℕ) (sound : soundOf d row ≡ true) where
       (same-counts (d .service .protocol) n (d .clock) row (d .servers) _ (length-set (d .servers) k _)
       (λ j. field-set (λ (v : Server). v .count) (d .servers) k j _ refl) (s .table))
 
-  pub weight-sound : (k w : ℕ) → LeavesSound (weightOf d row k w)
-  unfolding weightOf numberJudged
-  weight-sound k w =
+  -- where the number is a server's, the call is accepted
+  by-number : (k : ℕ) (on : Verdict → Result) → on (Verdict.Refused Refusal.NoServer) ≡ refusal Refusal.NoServer d (lent row [])
+      → (k < d .service .servers → Leaves d (lent row []) (on Verdict.Accepted)) → Leaves d (lent row []) (on (numberJudged d row k))
+  unfolding numberJudged
+  by-number k on none accepted =
       rw sound
-      (by-test (λ (v : Verdict). LeavesSound (onWeight d row k w v)) (ltb k (d .service .servers)) _ _
-      (λ e. weighed-sound k w (ltb-true k (d .service .servers) e))
-      (λ e. sound))
+      (by-test (λ (v : Verdict). Leaves d (lent row []) (on v)) (ltb k (d .service .servers)) _ _
+      (λ e. accepted (ltb-true k (d .service .servers) e))
+      (λ e. rw none (leaves-all d (lent row []) Refusal.NoServer refl)))
 
-  pub count-sound : (k : ℕ) → LeavesSound (countCallOf d row k)
-  unfolding countCallOf numberJudged
-  count-sound k = rw sound (by-test (λ (v : Verdict). LeavesSound (onCount d row k v)) (ltb k (d .service .servers)) _ _ (λ e. sound) (λ e. sound))
+  weight-sound : (k w : ℕ) → Leaves d (lent row []) (weightOf d row k w)
+  unfolding weightOf
+  weight-sound k w = by-number k (onWeight d row k w) refl (λ h. leaves-changed d (lent row []) (onWeight d row k w Verdict.Accepted) refl (weighed-sound k w h))
 
-  -- 3. Tick
+  count-sound : (k : ℕ) → Leaves d (lent row []) (countCallOf d row k)
+  unfolding countCallOf
+  count-sound k = by-number k (onCount d row k) refl (λ h. leaves-changed d (lent row []) (onCount d row k Verdict.Accepted) refl sound)
 
-  pub tick-sound : (now : ℕ) → LeavesSound (tickOf d row now)
+  tick-sound : (now : ℕ) → Leaves d (lent row []) (tickOf d row now)
   unfolding tickOf
   tick-sound now = rw sound (on-clock _ refl)
     where
-      on-clock : (earlier : Bool) → ltb now (d .clock) ≡ earlier → LeavesSound (inWords (tickOnClock d (slots row) now earlier))
-      on-clock true e = rw (sound-words d row sound) sound
-      on-clock false e = settled-sound d row now sound (ltb-false now (d .clock) e)
+      on-clock : (earlier : Bool) → ltb now (d .clock) ≡ earlier → Leaves d (lent row []) (inWords (tickOnClock d (lent (slots row) []) now earlier))
+      on-clock true e = rw (sound-words d row sound) (leaves-all d (lent row []) Refusal.EarlierClock refl)
+      on-clock false e =
+          leaves-changed d (lent row []) (inWords (tickOnClock d (lent (slots row) []) now false)) refl
+          (settled-sound d row now sound (ltb-false now (d .clock) e))
+
+-- 4. The same of any state: one that is not sound gets 15
+
+module _ (d : Director) (row : List ℕ) where
+  by-sound : (r : Result) → (soundOf d row ≡ true → Leaves d (lent row []) r) → (soundOf d row ≡ false → r ≡ refusal Refusal.Unsound d (lent row []))
+      → Leaves d (lent row []) r
+  by-sound r sound unsound =
+      ⊎-elim sound (λ (e : soundOf d row ≡ false). rw (unsound e) (leaves-all d (lent row []) Refusal.Unsound refl)) (truth (soundOf d row))
+
+  pub weight-leaves : (k w : ℕ) → Leaves d (lent row []) (weightOf d row k w)
+  unfolding weightOf numberJudged
+  weight-leaves k w = by-sound (weightOf d row k w) (λ e. weight-sound d row e k w) (λ e. rw e)
+
+  pub count-leaves : (k : ℕ) → Leaves d (lent row []) (countCallOf d row k)
+  unfolding countCallOf numberJudged
+  count-leaves k = by-sound (countCallOf d row k) (λ e. count-sound d row e k) (λ e. rw e)
+
+  pub tick-leaves : (now : ℕ) → Leaves d (lent row []) (tickOf d row now)
+  unfolding tickOf
+  tick-leaves now = by-sound (tickOf d row now) (λ e. tick-sound d row e now) (λ e. rw e)

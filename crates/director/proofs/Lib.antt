@@ -1,9 +1,12 @@
 pub mod Sound
 pub mod Changes
 pub mod Settled
+pub mod Leaving
 pub mod Keeping
 pub mod Segments
+pub mod Refusals
 pub mod Decisions
 pub mod Feasible
 pub mod Carried
-pub mod PacketsSound
+pub mod KeepingPackets
+pub mod Idle

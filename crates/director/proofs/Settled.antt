@@ -13,7 +13,7 @@ use Rattle.table.specs.Expire.{loweredBy}
 use Rattle.table.specs.Sound.{slotSound}
 use Rattle.table.proofs.Connections.{connection, idle-used}
 use Rattle.table.proofs.Soundness.{all-sound}
-use Rattle.table.proofs.Tables.{sound-table, later-table, expiry-table}
+use Rattle.table.proofs.Tables.{sound-table, later-table, removed-table}
 use Rattle.director.specs.declared.state.Director.{Director}
 use Rattle.director.specs.Judge.{soundOf}
 use Rattle.director.specs.Tick.{settled, settledSlots, idleNow}
@@ -41,4 +41,4 @@ settled-sound d row now sound later =
     let all = all-sound protocol n now (slots row) (d .servers) (sound-table protocol n now row (d .servers) table .1) in
     let counts = lowered-counts n (slotSound protocol n now) (idleNow d now)
     (λ x right idle. connection protocol n now x (idle-used protocol now x idle) right .2) (slots row) (d .servers) all in
-    recounted-sound d row s _ (d .walk) now _ counts (s .range) (expiry-table protocol n now row (d .servers) table)
+    recounted-sound d row s _ (d .walk) now _ counts (s .range) (removed-table protocol n now row (d .servers) table)

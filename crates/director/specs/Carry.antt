@@ -3,7 +3,7 @@ use Prim.Native.Nat.{ℕ, _<_, _≤_, _/_}
 use mathlib.Core.Bool.{Bool, true, false, cond}
 use mathlib.Core.List.{List}
 use lib.Dec.{eqb}
-use lib.ListN.{length, getD, set}
+use lib.ListN.{length, getD}
 use Rattle.servers.specs.declared.Server.{Server}
 use Rattle.servers.specs.declared.ServerNo.{ServerNo}
 use Rattle.servers.specs.Servers.{serverAt, countAt, raised, lowered}
@@ -11,7 +11,8 @@ use Rattle.scheduler.specs.declared.walk.Walk.{Walk}
 use Rattle.packet.specs.declared.redirect.Side.{Side}
 use Rattle.packet.specs.Redirect.{redirected, Redirectable}
 use Rattle.table.specs.declared.slot.Slot.{Slot}
-use Rattle.table.specs.Slots.{wordsPerSlot, slotOf, freeSlot, slotAt, IsRow}
+use Rattle.table.specs.Slots.{wordsPerSlot, freeSlot, slotAt, IsRow}
+use Rattle.table.specs.Changes.{opened, touched, freed}
 use Rattle.director.specs.declared.state.Service.{Service}
 use Rattle.director.specs.declared.state.Director.{Director}
 use Rattle.director.specs.declared.state.Change.{Change}
@@ -20,7 +21,7 @@ use Rattle.director.specs.declared.state.Outcome.{Outcome}
 use Rattle.director.specs.declared.segment.Sender.{Sender}
 use Rattle.director.specs.declared.segment.Segment.{Segment}
 use Rattle.director.specs.declared.decide.Decision.{Decision}
-use Rattle.director.specs.State.{Held, refusalHeld}
+use Rattle.director.specs.State.{Lent, withTable, withPacket, Held, refusal}
 
 -- "An inbound FIN moves 1 to 2 and 3 to 4; outbound moves 1 to 3 and 2 to 4."
 abbrev pub phaseOnFin : ℕ → Sender → ℕ
@@ -31,15 +32,9 @@ abbrev pub phaseOf : ℕ → Bool → Sender → ℕ
 phaseOf phase true sender = phaseOnFin phase sender
 phaseOf phase false sender = phase
 
--- a connection after a packet of it: "Every accepted packet sets last-seen."
-abbrev pub touched : Segment → ℕ → Slot → Slot
-touched m now s = record {
-  phase = phaseOf (s .phase) (m .flags .fin) (m .sender);
-  address = s .address;
-  port = s .port;
-  server = s .server;
-  seen = now;
-}
+-- the phase of a connection after a packet of it
+abbrev pub phaseAfter : Segment → Slot → ℕ
+phaseAfter m s = phaseOf (s .phase) (m .flags .fin) (m .sender)
 
 -- the packet sent on: "Inbound rewriting sets destination address and port to the server's. Outbound sets source address and port to the
 -- virtual ones."
@@ -59,31 +54,32 @@ withServers d servers walk = record { service = d .service; servers = servers; w
 abbrev pub passedBy : Director → ServerNo → Change → Outcome
 passedBy d i change = record { answer = Answer.Passed i change; director = d }
 
-abbrev pub passed : Director → List Slot → List ℕ → Segment → ServerNo → Change → Held
-passed d l p m i change = record { answer = Answer.Passed i change; director = d; slots = l; packet = forwarded d (i .0) p (m .sender) }
+abbrev pub passed : Director → Lent (List Slot) → Segment → ServerNo → Change → Held
+passed d x m i change =
+    record { answer = Answer.Passed i change; director = d; lent = withPacket x (forwarded d (i .0) (x .packet) (m .sender)) }
 
--- kept: the slot is written anew
-abbrev pub keptHeld : Director → List Slot → List ℕ → Segment → ℕ → Held
-keptHeld d l p m k =
-    let s = getD l k freeSlot in
-    passed d (set l k (touched m (d .clock) s)) p m (s .server) Change.Kept
+-- kept: "Every accepted packet sets last-seen."
+abbrev pub keptHeld : Director → Lent (List Slot) → Segment → ℕ → Held
+keptHeld d x m k =
+    let s = getD (x .table) k freeSlot in
+    passed d (withTable x (touched (x .table) k (phaseAfter m s) (d .clock))) m (s .server) Change.Kept
 
 -- ended: "the slot zeroed, the count lowered"
-abbrev pub endedHeld : Director → List Slot → List ℕ → Segment → ℕ → Held
-endedHeld d l p m k =
-    let s = getD l k freeSlot in
-    passed (withServers d (lowered (d .servers) (s .server .0)) (d .walk)) (set l k freeSlot) p m (s .server) Change.Ended
+abbrev pub endedHeld : Director → Lent (List Slot) → Segment → ℕ → Held
+endedHeld d x m k =
+    let s = getD (x .table) k freeSlot in
+    passed (withServers d (lowered (d .servers) (s .server .0)) (d .walk)) (withTable x (freed (x .table) k)) m (s .server) Change.Ended
 
 -- opened: "phase 1, last-seen the clock, server's count plus 1"
-abbrev pub openedHeld : Director → List Slot → List ℕ → Segment → ℕ → ServerNo → Walk → Held
-openedHeld d l p m k i walk =
-    passed (withServers d (raised (d .servers) (i .0)) walk) (set l k (slotOf 1 (m .address) (m .port) (i .0) (d .clock))) p m i Change.Opened
+abbrev pub openedHeld : Director → Lent (List Slot) → Segment → ℕ → ServerNo → Walk → Held
+openedHeld d x m k i walk =
+    passed (withServers d (raised (d .servers) (i .0)) walk) (withTable x (opened (x .table) k (m .address) (m .port) (i .0) (d .clock))) m i Change.Opened
 
-abbrev pub carriedOut : Director → List Slot → List ℕ → Segment → Decision → Held
-carriedOut d l p m (Decision.Refuse why) = refusalHeld why d l p
-carriedOut d l p m (Decision.Keep k) = keptHeld d l p m (k .0)
-carriedOut d l p m (Decision.End k) = endedHeld d l p m (k .0)
-carriedOut d l p m (Decision.Open k i walk) = openedHeld d l p m (k .0) i walk
+abbrev pub carriedOut : Director → Lent (List Slot) → Segment → Decision → Held
+carriedOut d x m (Decision.Refuse why) = refusal why d x
+carriedOut d x m (Decision.Keep k) = keptHeld d x m (k .0)
+carriedOut d x m (Decision.End k) = endedHeld d x m (k .0)
+carriedOut d x m (Decision.Open k i walk) = openedHeld d x m (k .0) i walk
 
 -- what a function that writes slot k and the packet asks for: a whole row that has the slot, and a packet that can be redirected
 pub record Ready (d : Director) (row p : List ℕ) (k : ℕ) : Type 0 where

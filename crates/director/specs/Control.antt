@@ -9,7 +9,7 @@ use Rattle.director.specs.declared.state.Director.{Director}
 use Rattle.director.specs.declared.state.Refusal.{Refusal}
 use Rattle.director.specs.declared.state.Answer.{Answer}
 use Rattle.director.specs.declared.judge.Verdict.{Verdict}
-use Rattle.director.specs.State.{Result, refusal}
+use Rattle.director.specs.State.{Result, lent, refusal}
 use Rattle.director.specs.Judge.{soundOf}
 
 -- "Weight and count 15, 5."
@@ -20,7 +20,7 @@ numberJudged d row k =
     (Verdict.Refused Refusal.Unsound)
 
 -- the state with server k's weight set, and the walk as its scheduler has it then
-abbrev pub weighed : Director → ℕ → ℕ → Director
+abbrev pub weighed : Director → (k w : ℕ) → Director
 weighed d k w = record {
   service = d .service;
   servers = withWeight (d .servers) k w;
@@ -28,17 +28,17 @@ weighed d k w = record {
   clock = d .clock;
 }
 
-abbrev pub onWeight : Director → List ℕ → ℕ → ℕ → Verdict → Result
-onWeight d row k w (Verdict.Refused why) = refusal why d row []
-onWeight d row k w Verdict.Accepted = record { answer = Answer.Done; director = weighed d k w; row = row; packet = [] }
+abbrev pub onWeight : Director → List ℕ → (k w : ℕ) → Verdict → Result
+onWeight d row k w (Verdict.Refused why) = refusal why d (lent row [])
+onWeight d row k w Verdict.Accepted = record { answer = Answer.Done; director = weighed d k w; lent = lent row [] }
 
 -- the weight call
-unfoldable pub weightOf : Director → List ℕ → ℕ → ℕ → Result
+unfoldable pub weightOf : Director → List ℕ → (k w : ℕ) → Result
 weightOf d row k w = onWeight d row k w (numberJudged d row k)
 
 abbrev pub onCount : Director → List ℕ → ℕ → Verdict → Result
-onCount d row k (Verdict.Refused why) = refusal why d row []
-onCount d row k Verdict.Accepted = record { answer = Answer.Number (countAt (d .servers) k); director = d; row = row; packet = [] }
+onCount d row k (Verdict.Refused why) = refusal why d (lent row [])
+onCount d row k Verdict.Accepted = record { answer = Answer.Number (countAt (d .servers) k); director = d; lent = lent row [] }
 
 -- the count call: "it tells the count as of the latest accepted" clock
 unfoldable pub countCallOf : Director → List ℕ → ℕ → Result

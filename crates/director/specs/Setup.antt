@@ -1,15 +1,15 @@
 -- Setup. Assumes nothing: these are definitions.
 use Prim.Native.Nat.{ℕ}
 use mathlib.Core.List.{List, []}
-use lib.ListN.{length, replicate}
 use Rattle.servers.specs.declared.Server.{Server}
 use Rattle.servers.specs.Fresh.{freshServers}
 use Rattle.scheduler.specs.Walk.{startOf}
+use Rattle.table.specs.Slots.{zeroed}
 use Rattle.director.specs.declared.state.Service.{Service}
 use Rattle.director.specs.declared.state.Director.{Director}
 use Rattle.director.specs.declared.state.Answer.{Answer}
 use Rattle.director.specs.declared.judge.Verdict.{Verdict}
-use Rattle.director.specs.State.{Result, refusal}
+use Rattle.director.specs.State.{Result, lent, refusal}
 use Rattle.director.specs.Judge.{settingsJudged}
 
 -- "Accepted, setup zeroes the row, all counts and the clock, and puts the walk at its start."
@@ -22,9 +22,9 @@ newDirector g given = record {
 }
 
 abbrev pub onVerdict : Director → Service → List Server → List ℕ → Verdict → Result
-onVerdict d g given row (Verdict.Refused why) = refusal why d row []
+onVerdict d g given row (Verdict.Refused why) = refusal why d (lent row [])
 onVerdict d g given row Verdict.Accepted =
-    record { answer = Answer.Done; director = newDirector g given; row = replicate (length row) 0; packet = [] }
+    record { answer = Answer.Done; director = newDirector g given; lent = lent (zeroed row) [] }
 
 -- setup: "handed the present state beside its settings and doesn't judge it; refused, it gives that state back"
 unfoldable pub setupOf : Director → Service → List Server → List ℕ → Result

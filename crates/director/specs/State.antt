@@ -1,9 +1,10 @@
 -- The director's answers in 01's numbers, and the result of a call. Assumes nothing: these are definitions.
 use Prim.Native.Nat.{ℕ}
+use mathlib.Core.Bool.{Bool, true, false, not}
 use mathlib.Core.List.{List}
 use Rattle.packet.specs.Reading.{faultNumber}
 use Rattle.table.specs.declared.slot.Slot.{Slot}
-use Rattle.table.specs.Slots.{words}
+use Rattle.table.specs.Slots.{slots, words}
 use Rattle.director.specs.declared.state.Director.{Director}
 use Rattle.director.specs.declared.state.Refusal.{Refusal}
 use Rattle.director.specs.declared.state.Answer.{Answer}
@@ -24,35 +25,72 @@ refusalNumber Refusal.TableFull = 13
 refusalNumber Refusal.NoWeight = 14
 refusalNumber Refusal.Unsound = 15
 
--- everything that a call settles: its answer, the state, the row and the packet that it leaves
-pub record Result : Type 0 where
+-- what a refusal keeps: "After 11 is passed, the clock is stored and idle connections are removed; 12, 13 and 14 keep that and change nothing
+-- else." All others "change nothing, the clock included."
+abbrev pub keepsClock : Refusal → Bool
+keepsClock Refusal.Size = false
+keepsClock Refusal.Service = false
+keepsClock Refusal.ServerUnset = false
+keepsClock Refusal.ServerRepeated = false
+keepsClock Refusal.NoServer = false
+keepsClock (Refusal.Packet fault) = false
+keepsClock Refusal.OtherEndpoint = false
+keepsClock Refusal.EarlierClock = false
+keepsClock Refusal.NoConnection = true
+keepsClock Refusal.TableFull = true
+keepsClock Refusal.NoWeight = true
+keepsClock Refusal.Unsound = false
+
+-- an answer after which state and row are as they were handed in
+abbrev pub changesNothing : Answer → Bool
+changesNothing Answer.Done = false
+changesNothing (Answer.Number n) = false
+changesNothing (Answer.Passed i change) = false
+changesNothing (Answer.Refused why) = not (keepsClock why)
+
+-- what a call is lent: the connection table, and the packet (none in a call that takes none)
+pub record Lent (T : Type 0) : Type 0 where
+  pub table : T
+  pub packet : List ℕ
+
+abbrev pub lent : {T : Type 0} → T → List ℕ → Lent T
+lent table packet = record { table = table; packet = packet }
+
+-- the same with another table, or with another packet
+abbrev pub withTable : {T U : Type 0} → Lent T → U → Lent U
+withTable x table = record { table = table; packet = x .packet }
+
+abbrev pub withPacket : {T : Type 0} → Lent T → List ℕ → Lent T
+withPacket x packet = record { table = x .table; packet = packet }
+
+-- everything that a call settles: its answer, the state, and what it was lent as it leaves that
+pub record Settles (T : Type 0) : Type 0 where
   pub answer : Answer
   pub director : Director
-  pub row : List ℕ
-  pub packet : List ℕ
+  pub lent : Lent T
+
+-- a public call is lent the table as a row of words
+abbrev pub Result : Type 0
+Result = Settles (List ℕ)
+
+-- a call of a sound state works on its slots
+abbrev pub Held : Type 0
+Held = Settles (List Slot)
 
 -- what a function gives back, with the row and the packet at its exit
-abbrev pub result : Outcome → List ℕ → List ℕ → Result
-result o row p = record { answer = o .answer; director = o .director; row = row; packet = p }
+abbrev pub result : Outcome → (row packet : List ℕ) → Result
+result o row packet = record { answer = o .answer; director = o .director; lent = lent row packet }
 
--- the same with the row seen as slots: a call of a sound state works on these
-pub record Held : Type 0 where
-  pub answer : Answer
-  pub director : Director
-  pub slots : List Slot
-  pub packet : List ℕ
+abbrev pub inSlots : Lent (List ℕ) → Lent (List Slot)
+inSlots x = withTable x (slots (x .table))
 
 abbrev pub inWords : Held → Result
-inWords h = record { answer = h .answer; director = h .director; row = words (h .slots); packet = h .packet }
+inWords h = record { answer = h .answer; director = h .director; lent = withTable (h .lent) (words (h .lent .table)) }
 
 -- "A refusal's answer is its number alone; the state comes back beside it."
 abbrev pub refusedBy : Refusal → Director → Outcome
 refusedBy why d = record { answer = Answer.Refused why; director = d }
 
--- a refusal that changes nothing
-abbrev pub refusal : Refusal → Director → List ℕ → List ℕ → Result
-refusal why d row p = result (refusedBy why d) row p
-
--- a refusal past 11, which keeps the clock and the idle removal
-abbrev pub refusalHeld : Refusal → Director → List Slot → List ℕ → Held
-refusalHeld why d l p = record { answer = Answer.Refused why; director = d; slots = l; packet = p }
+-- a refusal that leaves this state and what was lent
+abbrev pub refusal : {T : Type 0} → Refusal → Director → Lent T → Settles T
+refusal why d x = record { answer = Answer.Refused why; director = d; lent = x }

@@ -5,12 +5,12 @@ use mathlib.Core.List.{List, []}
 use lib.Dec.{ltb}
 use Rattle.lists.specs.Tests.{countOf}
 use Rattle.table.specs.declared.slot.Slot.{Slot}
-use Rattle.table.specs.Slots.{slots}
-use Rattle.table.specs.Expire.{isIdle, cleared, loweredBy}
+use Rattle.table.specs.Expire.{isIdle, loweredBy}
+use Rattle.table.specs.Changes.{idleRemoved}
 use Rattle.director.specs.declared.state.Director.{Director}
 use Rattle.director.specs.declared.state.Refusal.{Refusal}
 use Rattle.director.specs.declared.state.Answer.{Answer}
-use Rattle.director.specs.State.{Result, Held, inWords, refusal, refusalHeld}
+use Rattle.director.specs.State.{Lent, lent, withTable, Result, Held, inSlots, inWords, refusal}
 use Rattle.director.specs.Judge.{soundOf}
 
 -- a connection that is idle at a clock
@@ -22,22 +22,25 @@ abbrev pub settled : Director → List Slot → ℕ → Director
 settled d l now = record { service = d .service; servers = loweredBy (idleNow d now) l (d .servers); walk = d .walk; clock = now }
 
 abbrev pub settledSlots : Director → List Slot → ℕ → List Slot
-settledSlots d l now = cleared (idleNow d now) l
+settledSlots d l now = idleRemoved (d .service .protocol) now l
+
+abbrev pub settledLent : Director → Lent (List Slot) → ℕ → Lent (List Slot)
+settledLent d x now = withTable x (settledSlots d (x .table) now)
 
 -- is the clock earlier than the stored one?
-abbrev pub tickOnClock : Director → List Slot → ℕ → Bool → Held
-tickOnClock d l now true = refusalHeld Refusal.EarlierClock d l []
-tickOnClock d l now false =
-    record { answer = Answer.Number (countOf (idleNow d now) l); director = settled d l now; slots = settledSlots d l now; packet = [] }
+abbrev pub tickOnClock : Director → Lent (List Slot) → ℕ → Bool → Held
+tickOnClock d x now true = refusal Refusal.EarlierClock d x
+tickOnClock d x now false =
+    record { answer = Answer.Number (countOf (idleNow d now) (x .table)); director = settled d (x .table) now; lent = settledLent d x now }
 
 -- a tick of a sound state
-abbrev pub tickHeld : Director → List Slot → ℕ → Held
-tickHeld d l now = tickOnClock d l now (ltb now (d .clock))
+abbrev pub tickHeld : Director → Lent (List Slot) → ℕ → Held
+tickHeld d x now = tickOnClock d x now (ltb now (d .clock))
 
-abbrev pub tickOnSound : Director → List ℕ → ℕ → Bool → Result
-tickOnSound d row now true = inWords (tickHeld d (slots row) now)
-tickOnSound d row now false = refusal Refusal.Unsound d row []
+abbrev pub tickOnSound : Director → Lent (List ℕ) → ℕ → Bool → Result
+tickOnSound d x now true = inWords (tickHeld d (inSlots x) now)
+tickOnSound d x now false = refusal Refusal.Unsound d x
 
 -- the tick call: "Tick 15, 11."
 unfoldable pub tickOf : Director → List ℕ → ℕ → Result
-tickOf d row now = tickOnSound d row now (soundOf d row)
+tickOf d row now = tickOnSound d (lent row []) now (soundOf d row)

@@ -16,18 +16,18 @@ use servers::ServerNo;
 use servers::lower;
 use servers::raise;
 use servers::server_at;
-use table::slot::Slot;
+use table::change::free_slot;
+use table::change::open_slot;
+use table::change::touch_slot;
 use table::slot::SlotNo;
-use table::slot::free_slot;
-use table::slot::put_slot;
 use table::slot::slot_at;
 ghost use mathlib.Core.Path.{_≡_};
 ghost use Prim.Native.Nat.{_<_, _≤_};
 ghost use Rattle.servers.specs.Servers.{countAt};
 ghost use Rattle.packet.specs.Redirect.{Redirectable};
 ghost use Rattle.table.specs.Slots.{slots, slotAt};
-ghost use Rattle.director.specs.State.{result, inWords};
-ghost use Rattle.director.specs.Carry.{phaseOf, touched, sentOn, forwarded, withServers, passedBy, keptHeld, endedHeld, openedHeld, carriedOut, Ready, Feasible};
+ghost use Rattle.director.specs.State.{lent, result, inWords};
+ghost use Rattle.director.specs.Carry.{phaseOf, sentOn, forwarded, withServers, passedBy, keptHeld, endedHeld, openedHeld, carriedOut, Ready, Feasible};
 
 // The phase after a packet of a connection.
 fn phase_after(phase: u32, fin: bool, sender: Sender) -> u32
@@ -47,22 +47,6 @@ fn phase_after(phase: u32, fin: bool, sender: Sender) -> u32
             2 => 4,
             _ => phase,
         },
-    }
-}
-
-// A connection after a packet of it.
-fn touch(slot: Slot, segment: Segment, clock: u32) -> Slot
-    ensures { λ r. ⌜ r ≡ touched segment clock slot ⌝ }
-{
-    let sender = segment.sender;
-    let flags = segment.flags;
-    let server = slot.server;
-    Slot {
-        phase: phase_after(slot.phase, flags.fin, sender),
-        address: slot.address,
-        port: slot.port,
-        server,
-        seen: clock,
     }
 }
 
@@ -137,11 +121,14 @@ fn keep(
     k: SlotNo,
 ) -> Outcome
     requires { ⌜ Ready director (now row) (now packet) (k .0) ⌝ }
-    ensures { λ r. ⌜ result r (now (row .exit)) (now (packet .exit)) ≡ inWords (keptHeld director (slots (now (row .entry))) (now (packet .entry)) segment (k .0)) ⌝ }
+    ensures { λ r. ⌜ result r (now (row .exit)) (now (packet .exit)) ≡ inWords (keptHeld director (lent (slots (now (row .entry))) (now (packet .entry))) segment (k .0)) ⌝ }
 {
     let slot = slot_at(row, k);
     let no = slot.server;
-    put_slot(row, k, touch(slot, segment, director.clock));
+    let sender = segment.sender;
+    let flags = segment.flags;
+    let phase = phase_after(slot.phase, flags.fin, sender);
+    touch_slot(row, k, phase, director.clock);
     pass(director, packet, segment, no, Change::Kept)
 }
 
@@ -155,7 +142,7 @@ fn end(
 ) -> Outcome
     requires { ⌜ Ready director (now row) (now packet) (k .0) ⌝ }
     requires { ⌜ 1 ≤ countAt (director .servers) (slotAt (now row) (k .0) .server .0) ⌝ }
-    ensures { λ r. ⌜ result r (now (row .exit)) (now (packet .exit)) ≡ inWords (endedHeld director (slots (now (row .entry))) (now (packet .entry)) segment (k .0)) ⌝ }
+    ensures { λ r. ⌜ result r (now (row .exit)) (now (packet .exit)) ≡ inWords (endedHeld director (lent (slots (now (row .entry))) (now (packet .entry))) segment (k .0)) ⌝ }
 {
     let slot = slot_at(row, k);
     let no = slot.server;
@@ -178,16 +165,9 @@ fn open(
 ) -> Outcome
     requires { ⌜ Ready director (now row) (now packet) (k .0) ⌝ }
     requires { ⌜ countAt (director .servers) (no .0) < 4294967295 ⌝ }
-    ensures { λ r. ⌜ result r (now (row .exit)) (now (packet .exit)) ≡ inWords (openedHeld director (slots (now (row .entry))) (now (packet .entry)) segment (k .0) no walk) ⌝ }
+    ensures { λ r. ⌜ result r (now (row .exit)) (now (packet .exit)) ≡ inWords (openedHeld director (lent (slots (now (row .entry))) (now (packet .entry))) segment (k .0) no walk) ⌝ }
 {
-    let slot = Slot {
-        phase: 1,
-        address: segment.address,
-        port: segment.port as u32,
-        server: no,
-        seen: director.clock,
-    };
-    put_slot(row, k, slot);
+    open_slot(row, k, segment.address, segment.port, no, director.clock);
     let servers = director.servers;
     let after = with_servers(director, raise(servers, no), walk);
     pass(after, packet, segment, no, Change::Opened)
@@ -202,7 +182,7 @@ pub fn carry_out(
     decision: Decision,
 ) -> Outcome
     requires { ⌜ Feasible director (now row) (now packet) decision ⌝ }
-    ensures { λ r. ⌜ result r (now (row .exit)) (now (packet .exit)) ≡ inWords (carriedOut director (slots (now (row .entry))) (now (packet .entry)) segment decision) ⌝ }
+    ensures { λ r. ⌜ result r (now (row .exit)) (now (packet .exit)) ≡ inWords (carriedOut director (lent (slots (now (row .entry))) (now (packet .entry))) segment decision) ⌝ }
 {
     match decision {
         Decision::Refuse(why) => refuse(director, why),

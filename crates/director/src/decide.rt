@@ -17,6 +17,8 @@ ghost use mathlib.Core.Path.{_≡_};
 ghost use Prim.Native.Nat.{_<_, _/_};
 ghost use lib.ListN.{length};
 ghost use Rattle.table.specs.Slots.{wordsPerSlot, slots, slotAt};
+ghost use mathlib.Core.Bool.{true};
+ghost use Rattle.director.specs.Judge.{soundOf};
 ghost use Rattle.director.specs.Decide.{isSyn, opens, belongs, onPresent, onFree, onAbsent, decided};
 
 // What is to become of a packet: its refusal, or its connection's slot and, where one opens, the server and the walk after the pick.
@@ -113,6 +115,7 @@ fn decide_absent(director: Director, row: &[u32], segment: Segment) -> Decision
 
 // Refusals 12 to 14 in their order, or what becomes of the packet's connection.
 pub fn decide(director: Director, row: &[u32], segment: Segment) -> Decision
+    requires { ⌜ soundOf director (now row) ≡ true ⌝ }
     ensures { λ r. ⌜ r ≡ decided director (slots (now (row .entry))) segment ⌝ }
 {
     match find_client(row, segment.address, segment.port) {

@@ -1,8 +1,8 @@
-// 01's numbers.
+// The numbers of refusals, and what a refusal keeps.
 use crate::state::Refusal;
 use packet::read::fault_number;
 ghost use mathlib.Core.Path.{_≡_};
-ghost use Rattle.director.specs.State.{refusalNumber};
+ghost use Rattle.director.specs.State.{refusalNumber, keepsClock};
 
 // The number given on a refusal.
 pub fn refusal_number(why: Refusal) -> u8
@@ -21,5 +21,25 @@ pub fn refusal_number(why: Refusal) -> u8
         Refusal::TableFull => 13,
         Refusal::NoWeight => 14,
         Refusal::Unsound => 15,
+    }
+}
+
+// Whether a refusal keeps the clock and the idle removal; all others change nothing.
+pub fn keeps_clock(why: Refusal) -> bool
+    ensures { λ r. ⌜ r ≡ keepsClock why ⌝ }
+{
+    match why {
+        Refusal::Size => false,
+        Refusal::Service => false,
+        Refusal::ServerUnset => false,
+        Refusal::ServerRepeated => false,
+        Refusal::NoServer => false,
+        Refusal::Packet(_) => false,
+        Refusal::OtherEndpoint => false,
+        Refusal::EarlierClock => false,
+        Refusal::NoConnection => true,
+        Refusal::TableFull => true,
+        Refusal::NoWeight => true,
+        Refusal::Unsound => false,
     }
 }

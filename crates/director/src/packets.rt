@@ -15,7 +15,7 @@ ghost use mathlib.Core.Path.{_≡_};
 ghost use mathlib.Core.Bool.{true};
 ghost use Rattle.packet.specs.Redirect.{Redirectable};
 ghost use Rattle.table.specs.Slots.{slots};
-ghost use Rattle.director.specs.State.{result, inWords};
+ghost use Rattle.director.specs.State.{lent, result, inWords};
 ghost use Rattle.director.specs.Judge.{soundOf};
 ghost use Rattle.director.specs.Packets.{routed, packetHeld, packetOf};
 ghost use Rattle.director.specs.declared.state.Way.{Way};
@@ -23,7 +23,7 @@ ghost use Rattle.director.specs.declared.state.Way.{Way};
 // A packet that got past 11: its refusal, 12 to 14, or what becomes of its connection.
 fn route(director: Director, row: &mut [u32], packet: &mut [u8], segment: Segment) -> Outcome
     requires { ⌜ (soundOf director (now row) ≡ true) × Redirectable (director .service .protocol) (now packet) ⌝ }
-    ensures { λ r. ⌜ result r (now (row .exit)) (now (packet .exit)) ≡ inWords (routed director (slots (now (row .entry))) (now (packet .entry)) segment) ⌝ }
+    ensures { λ r. ⌜ result r (now (row .exit)) (now (packet .exit)) ≡ inWords (routed director (lent (slots (now (row .entry))) (now (packet .entry))) segment) ⌝ }
 {
     let decision = decide(director, row, segment);
     carry_out(director, row, packet, segment, decision)
@@ -38,7 +38,7 @@ fn packet_sound(
     clock: u32,
 ) -> Outcome
     requires { ⌜ soundOf director (now row) ≡ true ⌝ }
-    ensures { λ r. ⌜ result r (now (row .exit)) (now (packet .exit)) ≡ inWords (packetHeld way director (slots (now (row .entry))) (now (packet .entry)) clock) ⌝ }
+    ensures { λ r. ⌜ result r (now (row .exit)) (now (packet .exit)) ≡ inWords (packetHeld way director (lent (slots (now (row .entry))) (now (packet .entry))) clock) ⌝ }
 {
     match read_segment(way, director, packet) {
         Seen::Refused(why) => refuse(director, why),

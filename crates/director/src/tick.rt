@@ -10,14 +10,14 @@ ghost use mathlib.Core.Path.{_≡_};
 ghost use mathlib.Core.Bool.{true};
 ghost use mathlib.Core.List.{[]};
 ghost use Rattle.table.specs.Slots.{slots};
-ghost use Rattle.director.specs.State.{result, inWords};
+ghost use Rattle.director.specs.State.{lent, result, inWords};
 ghost use Rattle.director.specs.Judge.{soundOf};
 ghost use Rattle.director.specs.Tick.{tickHeld, tickOf};
 
 // A tick of a sound state.
 fn tick_sound(director: Director, row: &mut [u32], clock: u32) -> Outcome
     requires { ⌜ soundOf director (now row) ≡ true ⌝ }
-    ensures { λ r. ⌜ result r (now (row .exit)) [] ≡ inWords (tickHeld director (slots (now (row .entry))) clock) ⌝ }
+    ensures { λ r. ⌜ result r (now (row .exit)) [] ≡ inWords (tickHeld director (lent (slots (now (row .entry))) []) clock) ⌝ }
 {
     if clock < director.clock {
         return refuse(director, Refusal::EarlierClock);

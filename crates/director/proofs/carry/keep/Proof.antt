@@ -9,9 +9,9 @@ returns c =
     simp (
       c .before .before .pass .ensures .0,
       c .before .before .pass .ensures .1,
-      c .before .before .before .before .before .before .put-slot .ensures,
-      c .before .before .before .before .before .before .before .touch .ensures,
-      c .before .before .before .before .before .before .before .before .before .before .slot-at .ensures,
+      c .before .before .before .before .before .before .touch-slot .ensures,
+      c .before .before .before .before .before .before .before .before .phase-after .ensures,
+      c .before .before .before .before .before .before .before .before .before .before .before .slot-at .ensures,
     )
 
 pub keep-spec : {M : Type 1} → statement M

@@ -5,7 +5,7 @@ use Rattle.director.proofs.carry.open.Statement.{statement}
 use Rattle.director.proofs.carry.open.Tie as tie
 
 pass-requires : tie.Need-pass-requires
-pass-requires c κs = rw (c .before .with-servers .ensures) (c .before .before .before .before .before .before .before .before .before .before .before .pre .0 .packet)
+pass-requires c κs = rw (c .before .with-servers .ensures) (c .before .before .before .before .before .before .before .before .before .before .pre .0 .packet)
 
 returns : tie.Need-returns
 returns c =
@@ -14,14 +14,13 @@ returns c =
       c .before .before .pass .ensures .1,
       c .before .before .before .before .with-servers .ensures,
       c .before .before .before .before .before .raise .ensures,
-      c .before .before .before .before .before .before .before .before .before .put-slot .ensures,
+      c .before .before .before .before .before .before .before .before .before .open-slot .ensures,
     )
 
 pub open-spec : {M : Type 1} → statement M
 open-spec =
     tie.close
     (tie.spec
-    (λ c. search needs)
     (λ c κs. search needs)
     (λ c κs. search needs)
     (λ c κs. search needs)
