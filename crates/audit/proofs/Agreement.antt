@@ -5,7 +5,7 @@ use mathlib.Core.Bool.{Bool, true, false, not}
 use mathlib.Core.List.{List, [], _∷_, map}
 use mathlib.Core.Path.{_≡_, refl}
 use native.Mathlib.Omega.{arith}
-use lib.ListN.{length, getD, set}
+use lib.ListN.{length, getD}
 use Rattle.lists.specs.Tests.{countOf, keep}
 use Rattle.lists.proofs.Cases.{by-test}
 use Rattle.lists.proofs.Counting.{count-same}
@@ -17,9 +17,10 @@ use Rattle.servers.proofs.Freshness.{fresh-ends}
 use Rattle.scheduler.specs.declared.walk.Walk.{Walk}
 use Rattle.table.specs.declared.slot.Slot.{Slot}
 use Rattle.table.specs.declared.find.Found.{Found}
-use Rattle.table.specs.Slots.{slots, zeroed, slotOf, freeSlot, isUnused}
+use Rattle.table.specs.Slots.{slots, zeroed, freeSlot, isUnused}
 use Rattle.table.specs.Find.{ofClient as slotOfClient, firstFrom, Unique}
 use Rattle.table.specs.Expire.{isIdle, loweredBy}
+use Rattle.table.specs.Changes.{opened, touched, freed}
 use Rattle.table.proofs.Rows.{is-row}
 use Rattle.table.proofs.Clients.{cleared-unique, opened-unique, touched-unique, freed-unique}
 use Rattle.table.proofs.Empty.{empty-none, empty-unique}
@@ -29,7 +30,7 @@ use Rattle.director.specs.declared.segment.Segment.{Segment}
 use Rattle.director.specs.Setup.{newDirector}
 use Rattle.director.specs.Control.{weighed}
 use Rattle.director.specs.Tick.{settled, settledSlots}
-use Rattle.director.specs.Carry.{touched, withServers}
+use Rattle.director.specs.Carry.{phaseAfter, withServers}
 use Rattle.director.proofs.Sound.{Accepted}
 use Rattle.audit.specs.Calls.{setUp, Fits}
 use Rattle.audit.specs.Book.{Entry, Book, ofClient, isStruck, newEntry, marked, onClient}
@@ -115,30 +116,28 @@ module _ (d : Director) (l : List Slot) (given : List Server) (es : List Entry) 
   -- 5. A connection is opened
   pub matches-opened : (m : Segment) (k i : ℕ) (walk : Walk) → k < length l → isUnused (getD l k freeSlot) ≡ true
       → firstFrom (slotOfClient (m .address) (m .port)) 0 l ≡ Found.Nothing
-      → Matches (withServers d (raised (d .servers) i) walk) (set l k (slotOf 1 (m .address) (m .port) i (d .clock))) given (newEntry m i (d .clock) ∷ es)
-  matches-opened m k i walk h free none =
-      let s = slotOf 1 (m .address) (m .port) i (d .clock) in
-      record {
-        same = same-opened l es k s h free refl (t .same);
-        unique = opened-unique l k h s (t .unique) none;
-        ends = ends-with _ (ends-set (d .servers) i _ (d .service .servers) refl refl);
-        fits = t .fits;
-      }
+      → Matches (withServers d (raised (d .servers) i) walk) (opened l k (m .address) (m .port) i (d .clock)) given (newEntry m i (d .clock) ∷ es)
+  matches-opened m k i walk h free none = record {
+    same = same-opened l es k (m .address) (m .port) i (d .clock) h free (t .same);
+    unique = opened-unique l k h (m .address) (m .port) i (d .clock) (t .unique) none;
+    ends = ends-with _ (ends-set (d .servers) i _ (d .service .servers) refl refl);
+    fits = t .fits;
+  }
 
   -- 6. The one connection of a client, in slot k, is kept or ended
   module _ (m : Segment) (k : ℕ) (h : k < length l) (its : slotOfClient (m .address) (m .port) (getD l k freeSlot) ≡ true) where
     abbrev s : Slot
     s = getD l k freeSlot
 
-    pub matches-kept : isUnused s ≡ false → s .phase ≤ 4 → Matches d (set l k (touched m (d .clock) s)) given (map (onClient m (marked m (d .clock))) es)
+    pub matches-kept : isUnused s ≡ false → s .phase ≤ 4 → Matches d (touched l k (phaseAfter m s) (d .clock)) given (map (onClient m (marked m (d .clock))) es)
     matches-kept used most = record {
       same = same-kept m l (t .unique) k h its es (t .same) (d .clock) most;
-      unique = touched-unique l k h (touched m (d .clock) s) used (touched-marked m (d .clock) s used most .0) refl refl (t .unique);
+      unique = touched-unique l k h (phaseAfter m s) (d .clock) used (touched-marked m (d .clock) s used most .0) (t .unique);
       ends = t .ends;
       fits = t .fits;
     }
 
-    pub matches-ended : (i : ℕ) → Matches (withServers d (lowered (d .servers) i) (d .walk)) (set l k freeSlot) given (keep (λ e. not (ofClient (m .address) (m .port) e)) es)
+    pub matches-ended : (i : ℕ) → Matches (withServers d (lowered (d .servers) i) (d .walk)) (freed l k) given (keep (λ e. not (ofClient (m .address) (m .port) e)) es)
     matches-ended i = record {
       same = same-ended m l (t .unique) k h its es (t .same);
       unique = freed-unique l k h (t .unique);

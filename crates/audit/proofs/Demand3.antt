@@ -2,21 +2,22 @@
 -- Assumes nothing.
 use mathlib.Core.Bool.{true}
 use mathlib.Core.List.{List, [], _∷_}
-use mathlib.Core.Path.{_≡_, refl, sym, subst}
+use mathlib.Core.Path.{_≡_, refl, sym, ap, subst}
 use Prim.Native.Nat.{ℕ}
 use native.Mathlib.Omega.{arith}
 use Rattle.servers.specs.declared.Server.{Server}
 use Rattle.table.specs.Slots.{slots}
 use Rattle.director.specs.declared.state.Service.{Service}
-use Rattle.director.specs.declared.state.Director.{Director}
 use Rattle.director.specs.declared.state.Refusal.{Refusal}
 use Rattle.director.specs.declared.state.Answer.{Answer}
 use Rattle.director.specs.declared.judge.Verdict.{Verdict}
+use Rattle.director.specs.State.{changesNothing, lent}
 use Rattle.director.specs.Judge.{settingsJudged, soundOf}
 use Rattle.director.specs.Setup.{onVerdict, setupOf}
 use Rattle.director.proofs.Sound.{judged}
-use Rattle.director.proofs.Keeping.{LeavesSound, setup-sound, weight-sound, count-sound, tick-sound}
-use Rattle.director.proofs.PacketsSound.{packet-keeps-sound}
+use Rattle.director.proofs.Leaving.{Leaves, leaves-sound}
+use Rattle.director.proofs.Keeping.{setup-leaves, weight-leaves, count-leaves, tick-leaves}
+use Rattle.director.proofs.KeepingPackets.{packet-leaves}
 use Rattle.audit.specs.Calls.{Call, setUp, setWeight, count, tick, packet, Fits, AllFit, State, called, next, after, recordOf}
 use Rattle.audit.specs.Book.{Book, noteSetup, note, bookOf}
 use Rattle.audit.specs.Claim.{Claim, Demand3}
@@ -28,28 +29,28 @@ record Audited (s : State) (b : Book) : Type 0 where
   sound : soundOf (s .director) (s .row) ≡ true
   agree : Agree (s .director) (slots (s .row)) b
 
--- 1. Every call leaves a sound state sound
+-- 1. What a call leaves
 
-setup-keeps : (d : Director) (g : Service) (given : List Server) (row : List ℕ) → soundOf d row ≡ true → LeavesSound (setupOf d g given row)
-unfolding setupOf
-setup-keeps d g given row sound = by-verdict _ refl
-  where
-    by-verdict : (v : Verdict) → settingsJudged g given row ≡ v → LeavesSound (onVerdict d g given row v)
-    by-verdict Verdict.Accepted e = rw e at (setup-sound d g given row (rw e))
-    by-verdict (Verdict.Refused why) e = sound
+-- the packet of a call, if it has one
+abbrev packetIn : Call → List ℕ
+packetIn (setUp g given) = []
+packetIn (setWeight k w) = []
+packetIn (count k) = []
+packetIn (tick now) = []
+packetIn (packet way p now) = p
 
-called-sound : (s : State) (c : Call) → soundOf (s .director) (s .row) ≡ true → Fits c → LeavesSound (called s c)
-called-sound s (setUp g given) sound fits = setup-keeps (s .director) g given (s .row) sound
-called-sound s (setWeight k w) sound fits = weight-sound (s .director) (s .row) sound k w
-called-sound s (count k) sound fits = count-sound (s .director) (s .row) sound k
-called-sound s (tick now) sound fits = tick-sound (s .director) (s .row) sound now
-called-sound s (packet way p now) sound fits = packet-keeps-sound (s .director) (s .row) p now fits sound way
+pub called-leaves : (s : State) (c : Call) → Fits c → Leaves (s .director) (lent (s .row) (packetIn c)) (called s c)
+called-leaves s (setUp g given) fits = setup-leaves (s .director) g given (s .row)
+called-leaves s (setWeight k w) fits = weight-leaves (s .director) (s .row) k w
+called-leaves s (count k) fits = count-leaves (s .director) (s .row) k
+called-leaves s (tick now) fits = tick-leaves (s .director) (s .row) now
+called-leaves s (packet way p now) fits = packet-leaves (s .director) (s .row) p now fits way
 
 -- 2. The calls of a list
 
 audited-call : (s : State) (b : Book) (c : Call) → Audited s b → Fits c → Audited (next s c) (note b c (called s c .answer))
 audited-call s b c a fits = record {
-  sound = called-sound s c (a .sound) fits;
+  sound = leaves-sound (s .director) (lent (s .row) (packetIn c)) (called s c) (called-leaves s c fits) (a .sound);
   agree =
       subst (λ (x : Book). Agree (next s c .director) (slots (next s c .row)) (note x c (called s c .answer))) (sym (a .agree .book))
       (on-call s (a .agree .given) (a .agree .entries) (a .sound) (a .agree .matches) c .agree fits);
@@ -81,10 +82,10 @@ audited-setup : (s : State) (b : Book) (g : Service) (given : List Server) → F
     → Audited (next s (setUp g given)) (note b (setUp g given) (called s (setUp g given) .answer))
 unfolding setupOf
 audited-setup s b g given fits accepted =
-    record { sound = setup-sound (s .director) g given (s .row) accepted; agree = by-verdict _ refl accepted }
+    record { sound = setup-leaves (s .director) g given (s .row) .sound (ap changesNothing accepted); agree = by-verdict _ refl accepted }
   where
     by-verdict : (v : Verdict) → settingsJudged g given (s .row) ≡ v
-        → let r = onVerdict (s .director) g given (s .row) v in r .answer ≡ Answer.Done → Agree (r .director) (slots (r .row)) (noteSetup b g given (r .answer))
+        → let r = onVerdict (s .director) g given (s .row) v in r .answer ≡ Answer.Done → Agree (r .director) (slots (r .lent .table)) (noteSetup b g given (r .answer))
     by-verdict Verdict.Accepted e done = agreed _ _ _ _ (matches-new g given (s .row) (judged g given (s .row) e) fits)
     by-verdict (Verdict.Refused why) e done = absurd (refused-done why done)
 

@@ -15,12 +15,13 @@ use Rattle.lists.proofs.Counting.{count-set, count-some, count-same}
 use Rattle.table.specs.declared.slot.Slot.{Slot}
 use Rattle.table.specs.Slots.{freeSlot, isUnused, isUsed}
 use Rattle.table.specs.Find.{ofClient as slotOfClient, Unique}
-use Rattle.table.specs.Expire.{isIdle, cleared}
+use Rattle.table.specs.Expire.{isIdle}
+use Rattle.table.specs.Changes.{openedSlot, touchedSlot, opened, touched, freed, idleRemoved}
 use Rattle.table.proofs.Removal.{count-cleared}
 use Rattle.table.proofs.Clients.{free-nobody}
 use Rattle.director.specs.declared.segment.Sender.{Sender}
 use Rattle.director.specs.declared.segment.Segment.{Segment}
-use Rattle.director.specs.Carry.{phaseOf, touched}
+use Rattle.director.specs.Carry.{phaseOf, phaseAfter}
 use Rattle.audit.specs.Book.{Entry, ofClient, limit, isStruck, byClient, marked, onClient}
 use Rattle.lists.proofs.Selecting.{count-map, count-keep, count-split, count-one}
 
@@ -88,7 +89,7 @@ fin-marks (suc (suc (suc (suc (suc phase))))) true sender used most = absurd (om
 
 -- a packet of a connection: its slot and its entry
 pub touched-marked : (m : Segment) (now : ℕ) (s : Slot) → isUnused s ≡ false → s .phase ≤ 4
-    → (isUnused (touched m now s) ≡ false) × (entryOf (touched m now s) ≡ marked m now (entryOf s))
+    → let t = touchedSlot (phaseAfter m s) now s in (isUnused t ≡ false) × (entryOf t ≡ marked m now (entryOf s))
 touched-marked m now s used most =
     let h = fin-marks (s .phase) (m .flags .fin) (m .sender) used most in (
       h .2,
@@ -105,7 +106,7 @@ struck-holds protocol now q s =
     (⊎-elim (λ (u : isUnused s ≡ true). rw u) (λ (u : isUnused s ≡ false). rw u) (truth (isUnused s)))
 
 pub same-struck : (protocol now : ℕ) (l : List Slot) (es : List Entry) → Same l es
-    → Same (cleared (isIdle protocol now) l) (keep (λ e. not (isStruck protocol now e)) es)
+    → Same (idleRemoved protocol now l) (keep (λ e. not (isStruck protocol now e)) es)
 same-struck protocol now l es same q =
     let struck = isStruck protocol now in
     omega (
@@ -120,10 +121,11 @@ same-struck protocol now l es same q =
 
 -- 3. A free slot is taken
 
-pub same-opened : (l : List Slot) (es : List Entry) (k : ℕ) (s : Slot) → k < length l → isUnused (getD l k freeSlot) ≡ true → isUnused s ≡ false
-    → Same l es → Same (set l k s) (entryOf s ∷ es)
+pub same-opened : (l : List Slot) (es : List Entry) (k address port server clock : ℕ) → k < length l → isUnused (getD l k freeSlot) ≡ true
+    → Same l es → Same (opened l k address port server clock) (entryOf (openedSlot address port server clock) ∷ es)
 unfolding countOf
-same-opened l es k s h free used same q = omega (arith, rw (free, used) at (count-set (holds q) l k s freeSlot h), same q)
+same-opened l es k address port server clock h free same q =
+    omega (arith, rw free at (count-set (holds q) l k (openedSlot address port server clock) freeSlot h), same q)
 
 -- 4. The one slot of a client is changed
 
@@ -163,14 +165,14 @@ module _ (m : Segment) (l : List Slot) (unique : Unique l) (k : ℕ) (h : k < le
         let one = count-one client (holds q) client alike l (unique address port) k freeSlot h (free-nobody address port freeSlot refl) its in
         omega (arith, same q, unique address port, count-some client l k freeSlot h its, rw (its, client-parts address port s its .1) at one)
 
-    pub same-kept : (now : ℕ) → s .phase ≤ 4 → Same (set l k (touched m now s)) (map (onClient m (marked m now)) es)
+    pub same-kept : (now : ℕ) → s .phase ≤ 4 → Same (touched l k (phaseAfter m s) now) (map (onClient m (marked m now)) es)
     same-kept now most q =
         let (used, entry) = touched-marked m now s (client-parts address port s its .1) most in
-        one-changed (λ e. q (onClient m (marked m now) e)) q (λ e n. rw n) (touched m now s) (rw (used, client-parts address port s its .0, entry))
+        one-changed (λ e. q (onClient m (marked m now) e)) q (λ e n. rw n) (touchedSlot (phaseAfter m s) now s) (rw (used, client-parts address port s its .0, entry))
         ∙ same (λ e. q (onClient m (marked m now) e))
         ∙ sym (count-map q (onClient m (marked m now)) es)
 
-    pub same-ended : Same (set l k freeSlot) (keep (λ e. not (ofClient address port e)) es)
+    pub same-ended : Same (freed l k) (keep (λ e. not (ofClient address port e)) es)
     same-ended q =
         one-changed (λ e. not (ofClient address port e) && q e) q (λ e n. rw n) freeSlot (rw (client-parts address port s its .0))
         ∙ same (λ e. not (ofClient address port e) && q e)

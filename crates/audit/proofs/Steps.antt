@@ -1,32 +1,25 @@
 -- Every call of a sound state that agrees with its book: the state and the book agree afterwards, the answer is not 15, and what is claimed of
 -- the call holds. Assumes nothing.
 use Prim.Native.Nat.{ℕ, _<_}
-use mathlib.Core.Bool.{Bool, true, false, _&&_, true≢false}
-use mathlib.Core.List.{List}
+use mathlib.Core.Bool.{Bool, true, false, true≢false}
+use mathlib.Core.List.{List, []}
 use mathlib.Core.Path.{_≡_, refl, sym, _∙_}
 use native.Mathlib.Omega.{arith}
 use borrow.Author.Tests.{ltb-true, ltb-false}
-use lib.Dec.{eqb, ltb}
+use lib.Dec.{ltb}
 use lib.ListN.{length}
 use Rattle.lists.specs.Tests.{countOf}
 use Rattle.lists.proofs.Cases.{by-test}
 use Rattle.lists.proofs.Counting.{count-same}
 use Rattle.checksum.specs.Ones.{Bytes}
-use Rattle.packet.specs.declared.read.Fault.{Fault}
-use Rattle.packet.specs.declared.read.Packet.{Packet}
-use Rattle.packet.specs.declared.read.Reading.{Reading}
-use Rattle.packet.specs.Reading.{readPacket}
 use Rattle.servers.specs.declared.Server.{Server}
-use Rattle.servers.specs.declared.Found.{Found}
-use Rattle.servers.specs.declared.rules.Rule.{Rule}
 use Rattle.servers.specs.Servers.{countAt}
-use Rattle.servers.specs.Rules.{allKeep, numberOf}
 use Rattle.table.specs.declared.slot.Slot.{Slot}
 use Rattle.table.specs.Slots.{slots, words}
 use Rattle.table.proofs.Rows.{slots-words}
 use Rattle.table.proofs.Soundness.{count-naming, later-sound}
 use Rattle.table.proofs.Tables.{sound-table}
-use Rattle.table.proofs.Totals.{expiry-total}
+use Rattle.table.proofs.Totals.{removed-total}
 use Rattle.director.specs.declared.state.Service.{Service}
 use Rattle.director.specs.declared.state.Director.{Director}
 use Rattle.director.specs.declared.state.Refusal.{Refusal}
@@ -35,69 +28,27 @@ use Rattle.director.specs.declared.judge.Verdict.{Verdict}
 use Rattle.director.specs.declared.state.Way.{Way}
 use Rattle.director.specs.declared.segment.Segment.{Segment}
 use Rattle.director.specs.declared.segment.Seen.{Seen}
-use Rattle.director.specs.State.{Result, Held, inWords, refusalNumber}
-use Rattle.director.specs.Judge.{serviceRight, sizesRight, settingsJudged, soundOf}
+use Rattle.director.specs.State.{lent, Result, Held, inWords}
+use Rattle.director.specs.Judge.{settingsJudged, soundOf}
 use Rattle.director.specs.Setup.{onVerdict, setupOf}
 use Rattle.director.specs.Control.{numberJudged, onWeight, weightOf, onCount, countCallOf}
 use Rattle.director.specs.Tick.{idleNow, settled, settledSlots, tickOnClock, tickOf}
-use Rattle.director.specs.Segment.{inboundSegment, onNumber, onReading, segmentRead}
+use Rattle.director.specs.Segment.{segmentRead}
 use Rattle.director.specs.Packets.{onClock, onSeen, packetHeld, packetOf}
 use Rattle.director.proofs.Sound.{judged, sound-parts}
+use Rattle.director.proofs.Refusals.{EarlyVerdict, EarlySeen, settings-early, read-early}
 use Rattle.director.proofs.Settled.{settled-sound}
 use Rattle.servers.proofs.Endpoints.{places}
 use Rattle.audit.specs.Calls.{Call, setUp, setWeight, count, tick, packet, Fits, State, called}
-use Rattle.audit.specs.Book.{Entry, Book, names, isStruck, struck, keepsClock, timed, noteSeen, note}
+use Rattle.audit.specs.Book.{Entry, Book, names, isStruck, struck, timed, noteSeen, note}
 use Rattle.audit.specs.Claim.{refused, PacketClaim, CallClaim}
+use Rattle.audit.proofs.Numbers.{numbers-agree}
 use Rattle.audit.proofs.Slots.{holds, idle-struck}
 use Rattle.audit.proofs.Passage.{read-same}
 use Rattle.audit.proofs.Agreement.{Matches, bookAt, Agree, agreed, matches-new, matches-weighed, matches-settled}
 use Rattle.audit.proofs.Routing.{routed-right}
 
--- 1. Which refusals arise where
-
--- settings are not refused by 15
-abbrev NotUnsound : Verdict → Type 0
-NotUnsound Verdict.Accepted = Unit {0}
-NotUnsound (Verdict.Refused why) = eqb (refusalNumber why) 15 ≡ false
-
-settings-refusal : (g : Service) (given : List Server) (row : List ℕ) → NotUnsound (settingsJudged g given row)
-unfolding settingsJudged
-settings-refusal g given row =
-    by-test NotUnsound (sizesRight (g .servers) row) _ _
-    (λ _. by-test NotUnsound (serviceRight g) _ _
-    (λ _. by-test NotUnsound (allKeep Rule.Set given (g .servers)) _ _
-    (λ _. by-test NotUnsound (allKeep Rule.New given (g .servers)) _ _ (λ _. tt) (λ _. refl))
-    (λ _. refl))
-    (λ _. refl))
-    (λ _. refl)
-
--- a packet's reading is not refused by 15, nor by a number that keeps the clock
-abbrev BeforeClock : Seen → Type 0
-BeforeClock (Seen.Refused why) = (keepsClock (refusalNumber why) ≡ false) × (eqb (refusalNumber why) 15 ≡ false)
-BeforeClock (Seen.Segment m) = Unit {0}
-
-fault-before-clock : (fault : Fault) → BeforeClock (Seen.Refused (Refusal.Packet fault))
-fault-before-clock Fault.MalformedHeader = (refl, refl)
-fault-before-clock Fault.Fragment = (refl, refl)
-fault-before-clock Fault.OtherProtocol = (refl, refl)
-fault-before-clock Fault.MalformedTransport = (refl, refl)
-
-read-before-clock : (way : Way) (g : Service) (servers : List Server) (p : List ℕ) → BeforeClock (segmentRead way g servers p)
-unfolding segmentRead
-read-before-clock way g servers p = by-reading way (readPacket (g .protocol) p)
-  where
-    by-number : (r : Packet) (f : Found) → BeforeClock (onNumber r f)
-    by-number r Found.Nobody = (refl, refl)
-    by-number r (Found.At i) = tt
-
-    by-reading : (way : Way) (r : Reading) → BeforeClock (onReading way g servers r)
-    by-reading way (Reading.Refused fault) = fault-before-clock fault
-    by-reading Way.Inbound (Reading.Taken r) =
-        by-test BeforeClock (eqb (r .destination) (g .address) && eqb (r .transport .destination) (g .port)) (inboundSegment r) (Seen.Refused Refusal.OtherEndpoint)
-        (λ _. tt) (λ _. (refl, refl))
-    by-reading Way.Outbound (Reading.Taken r) = by-number r (numberOf servers (r .source) (r .transport .source) (g .servers))
-
--- 2. An answer that is a number
+-- 1. An answer that is a number
 
 one-number : (x y : ℕ) → Answer.Number x ≡ Answer.Number y → x ≡ y
 one-number x y e = cc
@@ -105,7 +56,7 @@ one-number x y e = cc
 not-number : (why : Refusal) (x : ℕ) → Answer.Refused why ≡ Answer.Number x → ⊥
 not-number why x e = let z : _≡_ {A = ℕ} 0 1 = cc in omega arith
 
--- 3. The calls
+-- 2. The calls
 
 module _ (s : State) (given : List Server) (es : List Entry) (sound : soundOf (s .director) (s .row) ≡ true) (t : Matches (s .director) (slots (s .row)) given es) where
   abbrev d : Director
@@ -122,7 +73,7 @@ module _ (s : State) (given : List Server) (es : List Entry) (sound : soundOf (s
 
   -- what is shown of a call
   pub record Right (c : Call) (r : Result) : Type 0 where
-    pub agree : Fits c → Agree (r .director) (slots (r .row)) (note b c (r .answer))
+    pub agree : Fits c → Agree (r .director) (slots (r .lent .table)) (note b c (r .answer))
     pub not15 : refused 15 (r .answer) ≡ false
     pub claim : Fits c → CallClaim s b c r
 
@@ -138,9 +89,9 @@ module _ (s : State) (given : List Server) (es : List Entry) (sound : soundOf (s
       let exists : k < length (d .servers) = omega (arith, places (d .servers) (d .service .servers) (parts .settings .set)) in
       count-naming (d .service .protocol) (d .service .servers) (d .clock) l (d .servers) inside k exists ∙ t .same (names k)
 
-  on-setup : (g : Service) (new : List Server) (v : Verdict) → settingsJudged g new row ≡ v → NotUnsound v → Right (setUp g new) (onVerdict d g new row v)
-  on-setup g new (Verdict.Refused why) e low = record { agree = λ _. unchanged; not15 = low; claim = λ _. tt }
-  on-setup g new Verdict.Accepted e low =
+  on-setup : (g : Service) (new : List Server) (v : Verdict) → settingsJudged g new row ≡ v → EarlyVerdict v → Right (setUp g new) (onVerdict d g new row v)
+  on-setup g new (Verdict.Refused why) e early = record { agree = λ _. unchanged; not15 = early .not15; claim = λ _. tt }
+  on-setup g new Verdict.Accepted e early =
       record { agree = λ fits. agreed _ _ _ _ (matches-new g new row (judged g new row e) fits); not15 = refl; claim = λ _. tt }
 
   on-weight : (k w : ℕ) → Right (setWeight k w) (weightOf d row k w)
@@ -163,7 +114,7 @@ module _ (s : State) (given : List Server) (es : List Entry) (sound : soundOf (s
   unfolding tickOf
   on-tick now = rw sound (on-clock _ refl)
     where
-      on-clock : (earlier : Bool) → ltb now (d .clock) ≡ earlier → Right (tick now) (inWords (tickOnClock d l now earlier))
+      on-clock : (earlier : Bool) → ltb now (d .clock) ≡ earlier → Right (tick now) (inWords (tickOnClock d (lent l []) now earlier))
       on-clock true e = record {
         agree = λ _. rw slots-words unchanged;
         not15 = refl;
@@ -175,7 +126,7 @@ module _ (s : State) (given : List Server) (es : List Entry) (sound : soundOf (s
           let parts = sound-parts d row sound in
           let inside = sound-table protocol n (d .clock) row (d .servers) (parts .table) .1 in
           let later = later-sound protocol n (d .clock) l (d .servers) inside now (ltb-false now (d .clock) e) in
-          let fall = expiry-total protocol n now l (d .servers) (places (d .servers) n (parts .settings .set)) later in
+          let fall = removed-total protocol n now l (d .servers) (places (d .servers) n (parts .settings .set)) later in
           record {
             agree = λ _. rw slots-words (agreed _ _ _ _ (matches-settled d l given es t now));
             not15 = refl;
@@ -188,12 +139,12 @@ module _ (s : State) (given : List Server) (es : List Entry) (sound : soundOf (s
 
   -- what is shown of a packet call, by what the packet says
   record PacketRight (way : Way) (p : List ℕ) (now : ℕ) (y : Seen) (h : Held) : Type 0 where
-    agree : Agree (h .director) (h .slots) (noteSeen (timed b now (h .answer)) (h .answer) y)
+    agree : Agree (h .director) (h .lent .table) (noteSeen (timed b now (h .answer)) (h .answer) y)
     not15 : refused 15 (h .answer) ≡ false
     claim : Bytes p → PacketClaim way b p now (inWords h) y
 
   on-clock : (way : Way) (p : List ℕ) (now : ℕ) (m : Segment) → segmentRead way (d .service) given p ≡ Seen.Segment m
-      → (earlier : Bool) → ltb now (d .clock) ≡ earlier → PacketRight way p now (Seen.Segment m) (onClock d l p m now earlier)
+      → (earlier : Bool) → ltb now (d .clock) ≡ earlier → PacketRight way p now (Seen.Segment m) (onClock d (lent l p) m now earlier)
   on-clock way p now m seen true e =
       record { agree = unchanged; not15 = refl; claim = λ _. record { earlier = sym e; stray = λ n. absurd (true≢false (sym e ∙ n)); passed = tt } }
   on-clock way p now m seen false e =
@@ -208,20 +159,21 @@ module _ (s : State) (given : List Server) (es : List Entry) (sound : soundOf (s
         claim = λ bytes. record { earlier = r .not11 ∙ sym e; stray = λ _. r .stray; passed = r .passed bytes };
       }
 
-  on-seen : (way : Way) (p : List ℕ) (now : ℕ) (y : Seen) → segmentRead way (d .service) given p ≡ y → BeforeClock y → PacketRight way p now y (onSeen d l p now y)
-  on-seen way p now (Seen.Refused why) seen before = record { agree = rw (before .0) unchanged; not15 = before .1; claim = λ _. (refl, refl) }
-  on-seen way p now (Seen.Segment m) seen before = on-clock way p now m seen _ refl
+  on-seen : (way : Way) (p : List ℕ) (now : ℕ) (y : Seen) → segmentRead way (d .service) given p ≡ y → EarlySeen y → PacketRight way p now y (onSeen d (lent l p) now y)
+  on-seen way p now (Seen.Refused why) seen early =
+      record { agree = rw (numbers-agree why, early .back) unchanged; not15 = early .not15; claim = λ _. (refl, refl) }
+  on-seen way p now (Seen.Segment m) seen early = on-clock way p now m seen _ refl
 
   on-packet : (way : Way) (p : List ℕ) (now : ℕ) → Right (packet way p now) (packetOf way d row p now)
   unfolding packetOf packetHeld
   on-packet way p now =
-      let r = on-seen way p now _ refl (read-before-clock way (d .service) given p) in
+      let r = on-seen way p now _ refl (read-early way (d .service) given p) in
       rw (sound, read-same way (d .service) (d .servers) given p (t .ends))
       (record { agree = λ _. rw slots-words (r .agree); not15 = r .not15; claim = r .claim })
 
   pub on-call : (c : Call) → Right c (called s c)
   unfolding setupOf
-  on-call (setUp g new) = on-setup g new _ refl (settings-refusal g new row)
+  on-call (setUp g new) = on-setup g new _ refl (settings-early g new row)
   on-call (setWeight k w) = on-weight k w
   on-call (count k) = on-count k
   on-call (tick now) = on-tick now

@@ -32,7 +32,7 @@ pub record Book : Type 0 where
   pub entries : List Entry
 
 -- the entry is of the packet's client
-abbrev pub ofClient : ℕ → ℕ → Entry → Bool
+abbrev pub ofClient : (address port : ℕ) → Entry → Bool
 ofClient address port e = eqb (e .address) address && eqb (e .port) port
 
 -- the entry names server k
@@ -44,7 +44,7 @@ abbrev pub limit : ℕ → Bool → ℕ
 limit protocol bothDone = cond (eqb protocol 17) 300 (cond bothDone 120 900)
 
 -- the entry is struck at a clock
-abbrev pub isStruck : ℕ → ℕ → Entry → Bool
+abbrev pub isStruck : (protocol now : ℕ) → Entry → Bool
 isStruck protocol now e = leb (limit protocol (e .clientDone && e .serverDone)) (now - e .last)
 
 -- "the clock becomes it. Then each entry is struck for which clock less last second is at or above" its limit
@@ -65,7 +65,7 @@ byClient Sender.Client = true
 byClient (Sender.Server i) = false
 
 -- "Opened" "adds an entry: its client, the answer's server, none finished, last second the clock"
-abbrev pub newEntry : Segment → ℕ → ℕ → Entry
+abbrev pub newEntry : Segment → (k now : ℕ) → Entry
 newEntry m k now = record { address = m .address; port = m .port; server = k; clientDone = false; serverDone = false; last = now }
 
 -- "Kept": "the clock as last second, and a TCP FIN marks its sender finished" (UDP has no flags)
@@ -90,8 +90,16 @@ entered b m k Change.Kept = withEntries b (map (onClient m (marked m (b .clock))
 entered b m k Change.Ended = withEntries b (keep (λ e. not (ofClient (m .address) (m .port) e)) (b .entries))
 
 -- "An accepted clock is one handed to a tick or packet call that got past 11 .., also where the answer is then 12, 13 or 14."
+abbrev pub clockKept : List ℕ
+clockKept = 12 ∷ 13 ∷ 14 ∷ []
+
+-- the number is in the list
+abbrev pub has : ℕ → List ℕ → Bool
+has n [] = false
+has n (k ∷ ks) = eqb n k || has n ks
+
 abbrev pub keepsClock : ℕ → Bool
-keepsClock n = leb 12 n && leb n 14
+keepsClock n = has n clockKept
 
 -- the answer of a tick or packet call shows that its clock is accepted
 abbrev pub clockAccepted : Answer → Bool

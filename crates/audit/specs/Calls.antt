@@ -46,7 +46,7 @@ called s (tick now) = tickOf (s .director) (s .row) now
 called s (packet way p now) = packetOf way (s .director) (s .row) p now
 
 abbrev pub next : State → Call → State
-next s c = let r = called s c in record { director = r .director; row = r .row }
+next s c = let r = called s c in record { director = r .director; row = r .lent .table }
 
 -- a call and its answer
 pub record Line : Type 0 where

@@ -102,11 +102,11 @@ isStray b m = eqb (countOf (mine m) (b .entries)) 0 && not (opens (b .service .p
 pub record SegmentClaim (way : Way) (b : Book) (p : List ℕ) (now : ℕ) (m : Segment) (r : Result) : Type 0 where
   pub earlier : refused 11 (r .answer) ≡ ltb now (b .clock)
   pub stray : ltb now (b .clock) ≡ false → refused 12 (r .answer) ≡ isStray (struck b now) m
-  pub passed : Passed way (struck b now) m p (r .answer) (r .packet)
+  pub passed : Passed way (struck b now) m p (r .answer) (r .lent .packet)
 
 -- a packet that 6 to 10 refuse gets that refusal, and leaves as it came
 abbrev pub PacketClaim : Way → Book → List ℕ → ℕ → Result → Seen → Type 0
-PacketClaim way b p now r (Seen.Refused why) = (r .answer ≡ Answer.Refused why) × (r .packet ≡ p)
+PacketClaim way b p now r (Seen.Refused why) = (r .answer ≡ Answer.Refused why) × (r .lent .packet ≡ p)
 PacketClaim way b p now r (Seen.Segment m) = SegmentClaim way b p now m r
 
 -- of a tick: the number of entries that it struck, "which is the fall of the sum of all counts in that call"

@@ -125,7 +125,7 @@ table =
     -- P10 TCP phase 4 last seen at 100: present at 219, gone at 220
     ∷ record { given = tickOver 6 4 219 ∷ tickOver 6 4 220 ∷ []; printed = 0 ∷ 1 ∷ [] }
     -- P11 whole packet, through inbound: opened at server 0
-    ∷ record { given = opening (directorOf 6 1 (server 6432 1 0 ∷ server 6433 1 0 ∷ []) 0) .packet; printed = p11-out }
+    ∷ record { given = opening (directorOf 6 1 (server 6432 1 0 ∷ server 6433 1 0 ∷ []) 0) .lent .packet; printed = p11-out }
     ∷ []
   where
     round : List ℕ

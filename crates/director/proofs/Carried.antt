@@ -51,7 +51,7 @@ module _ (d : Director) (row p : List ℕ) (m : Segment) (sound : Sound d row) w
   n = d .service .servers
 
   -- what the slot of the packet's connection has
-  its-slot : (k : ℕ) (rst : Bool) → (its : Its (slots row) m k rst) → Connection protocol n (d .clock) (slotAt row k) (its .used)
+  pub its-slot : (k : ℕ) (rst : Bool) → (its : Its (slots row) m k rst) → Connection protocol n (d .clock) (slotAt row k) (its .used)
   its-slot k rst its =
       let inside = sound-table protocol n (d .clock) row (d .servers) (sound .table) .1 in
       connection protocol n (d .clock) (slotAt row k) (its .used)
