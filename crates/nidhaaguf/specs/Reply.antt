@@ -1,12 +1,11 @@
 -- What a call gives back to C: the director's answer in 01's numbers, beside the state. Assumes nothing: these are definitions.
 use Prim.Native.Nat.{ℕ}
-use mathlib.Core.Bool.{Bool, cond, _&&_, _||_}
+use mathlib.Core.Bool.{cond}
 use mathlib.Core.List.{List}
-use lib.Dec.{eqb, leb}
 use Rattle.director.specs.declared.state.Director.{Director}
 use Rattle.director.specs.declared.state.Answer.{Answer}
 use Rattle.director.specs.declared.state.Change.{Change}
-use Rattle.director.specs.State.{Result, refusalNumber}
+use Rattle.director.specs.State.{refusalNumber, changesNothing, Lent, lent, Result}
 use Rattle.nidhaaguf.specs.declared.state.State.{State}
 use Rattle.nidhaaguf.specs.declared.reply.Reply.{Reply}
 use Rattle.nidhaaguf.specs.declared.reply.Told.{Told}
@@ -17,10 +16,6 @@ abbrev pub changeNumber : Change → ℕ
 changeNumber Change.Opened = 1
 changeNumber Change.Kept = 2
 changeNumber Change.Ended = 3
-
--- "Numbers 1 to 11 and 15 change nothing, the clock included."
-abbrev pub changesNothing : ℕ → Bool
-changesNothing k = (leb 1 k && leb k 11) || eqb k 15
 
 -- an answer in numbers: 0 for an accepted call, or the refusal; the number is the count, or how many connections the tick removed, or the
 -- packet's server. "A refusal's answer is its number alone"
@@ -35,12 +30,12 @@ abbrev pub beside : State → Told → Reply
 beside s t = record { state = s; refusal = t .refusal; number = t .number; change = t .change }
 
 -- the state that was handed in, in every field, where the refusal changes nothing; else the director's
-abbrev pub stateAfter : State → Director → ℕ → State
-stateAfter given d refusal = cond (changesNothing refusal) given (encoded d)
+abbrev pub stateAfter : State → Director → Answer → State
+stateAfter given d a = cond (changesNothing a) given (encoded d)
 
 -- the reply to a call that was handed a state
 abbrev pub replyOf : State → Director → Answer → Reply
-replyOf given d a = beside (stateAfter given d (toldBy a .refusal)) (toldBy a)
+replyOf given d a = beside (stateAfter given d a) (toldBy a)
 
 -- The same from the handed state's place alone, as the code has it: where a refusal changes nothing, all else is the director's
 -- (proofs/Handed: `as-exported`).
@@ -49,22 +44,21 @@ replyOf given d a = beside (stateAfter given d (toldBy a .refusal)) (toldBy a)
 abbrev pub encodedAt : Director → ℕ → State
 encodedAt d place = record { service = d .service; clock = d .clock; servers = d .servers; place = place; level = d .walk .level }
 
-abbrev pub stateAt : ℕ → Director → ℕ → State
-stateAt place d refusal = cond (changesNothing refusal) (encodedAt d place) (encoded d)
+abbrev pub stateAt : ℕ → Director → Answer → State
+stateAt place d a = cond (changesNothing a) (encodedAt d place) (encoded d)
 
 abbrev pub replyAt : ℕ → Director → Answer → Reply
-replyAt place d a = beside (stateAt place d (toldBy a .refusal)) (toldBy a)
+replyAt place d a = beside (stateAt place d a) (toldBy a)
 
--- everything that a call settles: its reply, and the row and the packet that it leaves
+-- everything that a call settles: its reply, and what it was lent as it leaves that
 pub record Replied : Type 0 where
   pub reply : Reply
-  pub row : List ℕ
-  pub packet : List ℕ
+  pub lent : Lent (List ℕ)
 
 -- what an exported function gives back, with the row and the packet at its exit
-abbrev pub replied : Reply → List ℕ → List ℕ → Replied
-replied r row p = record { reply = r; row = row; packet = p }
+abbrev pub replied : Reply → (row packet : List ℕ) → Replied
+replied r row packet = record { reply = r; lent = lent row packet }
 
 -- the director's result as C gets it, of the state that C handed in
 abbrev pub exported : State → Result → Replied
-exported given r = replied (replyOf given (r .director) (r .answer)) (r .row) (r .packet)
+exported given r = record { reply = replyOf given (r .director) (r .answer); lent = r .lent }

@@ -1,13 +1,15 @@
 // What a call gives back to C: the director's outcome in 01's numbers.
 use crate::state::State;
 use crate::state::encode;
+use director::number::keeps_clock;
 use director::number::refusal_number;
 use director::state::Answer;
 use director::state::Change;
 use director::state::Director;
 use director::state::Outcome;
 ghost use mathlib.Core.Path.{_≡_};
-ghost use Rattle.nidhaaguf.specs.Reply.{changeNumber, changesNothing, toldBy, stateAt, replyAt};
+ghost use Rattle.director.specs.State.{changesNothing};
+ghost use Rattle.nidhaaguf.specs.Reply.{changeNumber, toldBy, stateAt, replyAt};
 
 // NidhaagufAnswer: the state after a call and its answer, 816 bytes.
 #[repr(C)]
@@ -39,11 +41,16 @@ fn change_number(change: Change) -> u32
     }
 }
 
-// Whether a refusal is 1 to 11 or 15.
-fn changes_nothing(refusal: u32) -> bool
-    ensures { λ r. ⌜ r ≡ changesNothing refusal ⌝ }
+// Whether an answer is a refusal that changes nothing.
+fn changes_nothing(answer: Answer) -> bool
+    ensures { λ r. ⌜ r ≡ changesNothing answer ⌝ }
 {
-    ((1 <= refusal) & (refusal <= 11)) | (refusal == 15)
+    match answer {
+        Answer::Done => false,
+        Answer::Number(_) => false,
+        Answer::Passed(_, _) => false,
+        Answer::Refused(why) => !keeps_clock(why),
+    }
 }
 
 // An answer in 01's numbers.
@@ -76,11 +83,11 @@ fn told_by(answer: Answer) -> Told
 
 // The state after a call. Where the refusal changes nothing it is the one handed in, and only the place can be another than the
 // director's: one that can't be decoded comes back too. So the place alone is handed here, and not the whole state.
-fn state_after(place: u64, director: Director, refusal: u32) -> State
-    ensures { λ r. ⌜ r ≡ stateAt place director refusal ⌝ }
+fn state_after(place: u64, director: Director, answer: Answer) -> State
+    ensures { λ r. ⌜ r ≡ stateAt place director answer ⌝ }
 {
     let mut state = encode(director);
-    if changes_nothing(refusal) {
+    if changes_nothing(answer) {
         state.place = place;
     }
     state
@@ -94,7 +101,7 @@ pub fn reply_of(place: u64, outcome: Outcome) -> Reply
     let director = outcome.director;
     let told = told_by(answer);
     Reply {
-        state: state_after(place, director, told.refusal),
+        state: state_after(place, director, answer),
         refusal: told.refusal,
         number: told.number,
         change: told.change,

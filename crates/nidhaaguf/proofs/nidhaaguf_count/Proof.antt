@@ -2,7 +2,9 @@
 -- Assumes nothing.
 use denote.Ref.{now}
 use borrow.Author.Needs.{needs}
-use Rattle.nidhaaguf.proofs.Handed.{as-exported, count-handed}
+use Rattle.director.proofs.Keeping.{count-leaves}
+use Rattle.nidhaaguf.specs.State.{decoded}
+use Rattle.nidhaaguf.proofs.Handed.{as-exported}
 use Rattle.nidhaaguf.proofs.nidhaaguf_count.Statement.{statement}
 use Rattle.nidhaaguf.proofs.nidhaaguf_count.Tie as tie
 
@@ -10,7 +12,7 @@ returns : tie.Need-returns
 returns c =
     let a = c .before .before .before .before .args in
     let met = rw (c .before .before .decode .ensures) at (c .before .count .ensures) in
-    rw (c .reply-of .ensures) (as-exported (a .state) _ _ _ _ met (count-handed (a .state) (now (a .row)) (a .number)))
+    rw (c .reply-of .ensures) (as-exported (a .state) _ _ _ _ _ met (count-leaves (decoded (a .state)) (now (a .row)) (a .number)))
 
 pub nidhaaguf-count-spec : {M : Type 1} → statement M
 nidhaaguf-count-spec = tie.close (tie.spec (λ c κs. search needs) (λ c κs. search needs) (λ c κs. search needs) returns)

@@ -6,7 +6,9 @@ use denote.Ref.{now}
 use borrow.Author.Needs.{needs}
 use Rattle.checksum.specs.Ones.{Bytes}
 use Rattle.director.specs.declared.state.Way.{Way}
-use Rattle.nidhaaguf.proofs.Handed.{as-exported, packet-handed}
+use Rattle.director.proofs.KeepingPackets.{packet-leaves}
+use Rattle.nidhaaguf.specs.State.{decoded}
+use Rattle.nidhaaguf.proofs.Handed.{as-exported}
 use Rattle.nidhaaguf.proofs.nidhaaguf_inbound.Statement.{statement}
 use Rattle.nidhaaguf.proofs.nidhaaguf_inbound.Tie as tie
 
@@ -15,7 +17,7 @@ returns c =
     let a = c .before .before .before .before .before .before .before .before .before .before .before .args in
     let met = rw (c .before .before .before .before .before .before .before .before .decode .ensures) at (c .before .before .before .before .before .take-packet .ensures) in
     let bytes : Bytes (now (a .packet)) = record { at = λ (i : ℕ). omega (arith, c .before .before .before .before .before .before .before .before .before .slice-known2 .given i) } in
-    rw (c .reply-of .ensures) (as-exported (a .state) _ _ _ _ met (packet-handed (a .state) (now (a .row)) (now (a .packet)) (a .clock) bytes Way.Inbound))
+    rw (c .reply-of .ensures) (as-exported (a .state) _ _ _ _ _ met (packet-leaves (decoded (a .state)) (now (a .row)) (now (a .packet)) (a .clock) bytes Way.Inbound))
 
 pub nidhaaguf-inbound-spec : {M : Type 1} → statement M
 nidhaaguf-inbound-spec = tie.close (tie.spec (λ c κs. search needs) (λ c κs. search needs) (λ c κs. search needs) (λ c. search needs) (λ c. search needs) returns)

@@ -2,7 +2,9 @@
 -- Assumes nothing.
 use denote.Ref.{now}
 use borrow.Author.Needs.{needs}
-use Rattle.nidhaaguf.proofs.Handed.{as-exported, set-up-handed}
+use Rattle.director.proofs.Keeping.{setup-leaves}
+use Rattle.nidhaaguf.specs.State.{decoded}
+use Rattle.nidhaaguf.proofs.Handed.{as-exported}
 use Rattle.nidhaaguf.proofs.nidhaaguf_set_up.Statement.{statement}
 use Rattle.nidhaaguf.proofs.nidhaaguf_set_up.Tie as tie
 
@@ -10,7 +12,7 @@ returns : tie.Need-returns
 returns c =
     let a = c .before .before .before .before .before .before .before .before .args in
     let met = rw (c .before .before .before .before .before .decode .ensures) at (c .before .before .before .set-up .ensures) in
-    rw (c .reply-of .ensures) (as-exported (a .state) _ _ _ _ met (set-up-handed (a .state) (a .service) (a .servers .server) (now (a .row))))
+    rw (c .reply-of .ensures) (as-exported (a .state) _ _ _ _ _ met (setup-leaves (decoded (a .state)) (a .service) (a .servers .server) (now (a .row))))
 
 pub nidhaaguf-set-up-spec : {M : Type 1} → statement M
 nidhaaguf-set-up-spec = tie.close (tie.spec (λ c κs. search needs) (λ c κs. search needs) (λ c κs. search needs) (λ c. search needs) returns)

@@ -2,7 +2,9 @@
 -- Assumes nothing.
 use denote.Ref.{now}
 use borrow.Author.Needs.{needs}
-use Rattle.nidhaaguf.proofs.Handed.{as-exported, tick-handed}
+use Rattle.director.proofs.Keeping.{tick-leaves}
+use Rattle.nidhaaguf.specs.State.{decoded}
+use Rattle.nidhaaguf.proofs.Handed.{as-exported}
 use Rattle.nidhaaguf.proofs.nidhaaguf_tick.Statement.{statement}
 use Rattle.nidhaaguf.proofs.nidhaaguf_tick.Tie as tie
 
@@ -10,7 +12,7 @@ returns : tie.Need-returns
 returns c =
     let a = c .before .before .before .before .before .before .before .args in
     let met = rw (c .before .before .before .before .before .decode .ensures) at (c .before .before .before .tick .ensures) in
-    rw (c .reply-of .ensures) (as-exported (a .state) _ _ _ _ met (tick-handed (a .state) (now (a .row)) (a .clock)))
+    rw (c .reply-of .ensures) (as-exported (a .state) _ _ _ _ _ met (tick-leaves (decoded (a .state)) (now (a .row)) (a .clock)))
 
 pub nidhaaguf-tick-spec : {M : Type 1} → statement M
 nidhaaguf-tick-spec = tie.close (tie.spec (λ c κs. search needs) (λ c κs. search needs) (λ c κs. search needs) (λ c. search needs) returns)
