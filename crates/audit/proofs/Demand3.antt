@@ -32,7 +32,7 @@ record Audited (s : State) (b : Book) : Type 0 where
 -- 1. What a call leaves
 
 -- the packet of a call, if it has one
-abbrev packetIn : Call → List ℕ
+abbrev pub packetIn : Call → List ℕ
 packetIn (setUp g given) = []
 packetIn (setWeight k w) = []
 packetIn (count k) = []
