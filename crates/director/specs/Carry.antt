@@ -22,7 +22,7 @@ use Rattle.director.specs.declared.segment.Segment.{Segment}
 use Rattle.director.specs.declared.decide.Decision.{Decision}
 use Rattle.director.specs.State.{Held, refusalHeld}
 
--- "An inbound FIN moves 1 to 2 and 3 to 4; outbound moves 1 to 3 and 2 to 4."
+-- "An inbound FIN moves 1 to 2 and 3 to 4; outbound moves 1 to 3 and 2 to 4." (SCOPE 8.7)
 abbrev pub phaseOnFin : ℕ → Sender → ℕ
 phaseOnFin phase Sender.Client = cond (eqb phase 1) 2 (cond (eqb phase 3) 4 phase)
 phaseOnFin phase (Sender.Server i) = cond (eqb phase 1) 3 (cond (eqb phase 2) 4 phase)
@@ -31,7 +31,7 @@ abbrev pub phaseOf : ℕ → Bool → Sender → ℕ
 phaseOf phase true sender = phaseOnFin phase sender
 phaseOf phase false sender = phase
 
--- a connection after a packet of it: "Every accepted packet sets last-seen."
+-- a connection after a packet of it: "Every accepted packet sets last-seen." (SCOPE 8.10)
 abbrev pub touched : Segment → ℕ → Slot → Slot
 touched m now s = record {
   phase = phaseOf (s .phase) (m .flags .fin) (m .sender);
@@ -42,7 +42,7 @@ touched m now s = record {
 }
 
 -- the packet sent on: "Inbound rewriting sets destination address and port to the server's. Outbound sets source address and port to the
--- virtual ones."
+-- virtual ones." (SCOPE 7.4)
 abbrev pub sentOn : Service → Server → List ℕ → Sender → List ℕ
 sentOn g v p Sender.Client = redirected (g .protocol) Side.Destination (v .address) (v .port) p
 sentOn g v p (Sender.Server i) = redirected (g .protocol) Side.Source (g .address) (g .port) p
@@ -55,7 +55,7 @@ forwarded d k p sender = sentOn (d .service) (serverAt (d .servers) k) p sender
 abbrev pub withServers : Director → List Server → Walk → Director
 withServers d servers walk = record { service = d .service; servers = servers; walk = walk; clock = d .clock }
 
--- an accepted packet of server no: "return the server number and one of: opened, ended, kept"
+-- an accepted packet of server no: "return the server number and one of: opened .., ended .., kept" (SCOPE 7.9)
 abbrev pub passedBy : Director → ServerNo → Change → Outcome
 passedBy d i change = record { answer = Answer.Passed i change; director = d }
 
@@ -68,13 +68,13 @@ keptHeld d l p m k =
     let s = getD l k freeSlot in
     passed d (set l k (touched m (d .clock) s)) p m (s .server) Change.Kept
 
--- ended: "the slot zeroed, the count lowered"
+-- ended: "the slot zeroed, the count lowered" (SCOPE 8.8)
 abbrev pub endedHeld : Director → List Slot → List ℕ → Segment → ℕ → Held
 endedHeld d l p m k =
     let s = getD l k freeSlot in
     passed (withServers d (lowered (d .servers) (s .server .0)) (d .walk)) (set l k freeSlot) p m (s .server) Change.Ended
 
--- opened: "phase 1, last-seen the clock, server's count plus 1"
+-- opened: "phase 1, last-seen the clock, server's count plus 1" (SCOPE 8.4)
 abbrev pub openedHeld : Director → List Slot → List ℕ → Segment → ℕ → ServerNo → Walk → Held
 openedHeld d l p m k i walk =
     passed (withServers d (raised (d .servers) (i .0)) walk) (set l k (slotOf 1 (m .address) (m .port) (i .0) (d .clock))) p m i Change.Opened

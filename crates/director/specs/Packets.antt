@@ -39,6 +39,6 @@ abbrev pub packetOnSound : Way → Director → List ℕ → List ℕ → ℕ �
 packetOnSound way d row p now true = inWords (packetHeld way d (slots row) p now)
 packetOnSound way d row p now false = refusal Refusal.Unsound d row p
 
--- a packet call: "Packets 15, 6 to 11, then 12 to 14."
+-- a packet call: "Packets 15, 6 to 11, then 12 to 14." (SCOPE 5.1)
 unfoldable pub packetOf : Way → Director → List ℕ → List ℕ → ℕ → Result
 packetOf way d row p now = packetOnSound way d row p now (soundOf d row)

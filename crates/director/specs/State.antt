@@ -1,4 +1,4 @@
--- The director's answers in 01's numbers, and the result of a call. Assumes nothing: these are definitions.
+-- The numbers of refusals (SCOPE section 4), and the result of a call. Assumes nothing: these are definitions.
 use Prim.Native.Nat.{ℕ}
 use mathlib.Core.List.{List}
 use Rattle.packet.specs.Reading.{faultNumber}
@@ -9,7 +9,7 @@ use Rattle.director.specs.declared.state.Refusal.{Refusal}
 use Rattle.director.specs.declared.state.Answer.{Answer}
 use Rattle.director.specs.declared.state.Outcome.{Outcome}
 
--- 01's "Numbers given on refusal"
+-- "Numbers given on refusal" (SCOPE section 4)
 abbrev pub refusalNumber : Refusal → ℕ
 refusalNumber Refusal.Size = 1
 refusalNumber Refusal.Service = 2
@@ -45,14 +45,14 @@ pub record Held : Type 0 where
 abbrev pub inWords : Held → Result
 inWords h = record { answer = h .answer; director = h .director; row = words (h .slots); packet = h .packet }
 
--- "A refusal's answer is its number alone; the state comes back beside it."
+-- "A refusal's answer is its number alone; the state comes back beside it." (SCOPE 5.5)
 abbrev pub refusedBy : Refusal → Director → Outcome
 refusedBy why d = record { answer = Answer.Refused why; director = d }
 
--- a refusal that changes nothing
+-- a refusal that changes nothing (SCOPE 5.3)
 abbrev pub refusal : Refusal → Director → List ℕ → List ℕ → Result
 refusal why d row p = result (refusedBy why d) row p
 
--- a refusal past 11, which keeps the clock and the idle removal
+-- a refusal past 11, which keeps the clock and the idle removal (SCOPE 5.4)
 abbrev pub refusalHeld : Refusal → Director → List Slot → List ℕ → Held
 refusalHeld why d l p = record { answer = Answer.Refused why; director = d; slots = l; packet = p }

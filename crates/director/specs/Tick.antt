@@ -17,7 +17,7 @@ use Rattle.director.specs.Judge.{soundOf}
 abbrev pub idleNow : Director → ℕ → Slot → Bool
 idleNow d now s = isIdle (d .service .protocol) now s
 
--- "After 11 is passed, the clock is stored and idle connections are removed": the state, and the slots
+-- "After 11 is passed, the clock is stored and idle connections are removed" (SCOPE 5.4): the state, and the slots
 abbrev pub settled : Director → List Slot → ℕ → Director
 settled d l now = record { service = d .service; servers = loweredBy (idleNow d now) l (d .servers); walk = d .walk; clock = now }
 
@@ -38,6 +38,6 @@ abbrev pub tickOnSound : Director → List ℕ → ℕ → Bool → Result
 tickOnSound d row now true = inWords (tickHeld d (slots row) now)
 tickOnSound d row now false = refusal Refusal.Unsound d row []
 
--- the tick call: "Tick 15, 11."
+-- the tick call: "Tick 15, 11." (SCOPE 5.1)
 unfoldable pub tickOf : Director → List ℕ → ℕ → Result
 tickOf d row now = tickOnSound d row now (soundOf d row)

@@ -1,4 +1,4 @@
-// 01's numbers.
+// The numbers of refusals (SCOPE section 4).
 use crate::state::Refusal;
 use packet::read::fault_number;
 ghost use mathlib.Core.Path.{_≡_};

@@ -1,4 +1,4 @@
-// What a call gives back to C: the director's outcome in 01's numbers.
+// What a call gives back to C: the director's outcome in numbers (SCOPE section 4).
 use crate::state::State;
 use crate::state::encode;
 use director::number::refusal_number;
@@ -13,7 +13,7 @@ ghost use Rattle.nidhaaguf.specs.Reply.{changeNumber, changesNothing, to
 #[repr(C)]
 pub struct Reply {
     pub state: State,
-    // 0 for accepted, else 01's number
+    // 0 for accepted, else the refusal's number
     pub refusal: u32,
     // of an accepted count or tick call its number, of an accepted packet its server, else 0
     pub number: u32,
@@ -46,7 +46,7 @@ fn changes_nothing(refusal: u32) -> bool
     ((1 <= refusal) & (refusal <= 11)) | (refusal == 15)
 }
 
-// An answer in 01's numbers.
+// An answer in numbers.
 fn told_by(answer: Answer) -> Told
     ensures { λ r. ⌜ r ≡ toldBy answer ⌝ }
 {
