@@ -26,6 +26,8 @@
  * Nothing else: the state, the row, the packet and the other arguments may hold anything, and every call then ends with
  * the answer that its rules give (15, where the state and the row don't fit together).
  *
+ * The rules that each call keeps are in docs/SCOPE.md, cited here as SCOPE 4.12; rule 4.N is refusal N.
+ *
  * Addresses and ports are numbers in the machine's byte order: 192.0.2.10 is 0xC000020A (ntohl, ntohs). Packets are
  * bytes as they stand on the wire, from the first byte of the IPv4 header on.
  */
@@ -45,7 +47,7 @@ extern "C" {
 /* Places for servers in a state. */
 #define NIDHAAGUF_SERVERS 64
 
-/* A connection takes five words of the row; a row has 5 to 20,480 words, a multiple of five. */
+/* A connection takes five words of the row; a row has 5 to 20,480 words, a multiple of five (SCOPE 2.4, 2.6). */
 #define NIDHAAGUF_WORDS_PER_SLOT 5
 
 /* A server. */
@@ -65,7 +67,7 @@ typedef struct {
     uint32_t servers;   /* how many servers there are, 1 to 64 */
 } NidhaagufService;
 
-/* The servers that setup is given: places past service.servers are not read. */
+/* The servers that setup is given: places past service.servers are not read (SCOPE 2.3). */
 typedef struct {
     NidhaagufServer server[NIDHAAGUF_SERVERS];
 } NidhaagufServers;
@@ -99,7 +101,7 @@ enum NidhaagufProtocol {
     NIDHAAGUF_UDP = 17
 };
 
-/* NidhaagufService.scheduler */
+/* NidhaagufService.scheduler (SCOPE 10.3, 10.5, 10.8, 10.9) */
 enum NidhaagufScheduler {
     NIDHAAGUF_ROUND_ROBIN = 1,
     NIDHAAGUF_WEIGHTED_ROUND_ROBIN = 2,
@@ -108,9 +110,9 @@ enum NidhaagufScheduler {
 };
 
 /*
- * NidhaagufAnswer.refusal. Refusals 1 to 11 and 15 change nothing: the state comes back as it was handed in, in every
- * field, and row and packet are as they were. 12, 13 and 14 store the clock and remove idle connections, and change
- * nothing else.
+ * NidhaagufAnswer.refusal (SCOPE section 4). Refusals 1 to 11 and 15 change nothing: the state comes back as it was
+ * handed in, in every field, and row and packet are as they were (SCOPE 5.3). 12, 13 and 14 store the clock and remove
+ * idle connections, and change nothing else (SCOPE 5.4).
  */
 enum NidhaagufRefusal {
     NIDHAAGUF_ACCEPTED = 0,
@@ -131,7 +133,7 @@ enum NidhaagufRefusal {
     NIDHAAGUF_UNSOUND = 15              /* all but setup: state and row are not what the calls have made */
 };
 
-/* NidhaagufAnswer.change */
+/* NidhaagufAnswer.change (SCOPE 7.9) */
 enum NidhaagufChange {
     NIDHAAGUF_NONE = 0,   /* no packet was accepted */
     NIDHAAGUF_OPENED = 1, /* the packet opened a connection */
@@ -141,25 +143,26 @@ enum NidhaagufChange {
 
 /*
  * Sets up a service over the first service.servers of `servers`, whatever the state before; all counts and the clock
- * become 0 and the row is cleared. `state` is only what a refusal gives back: {0} will do the first time.
+ * become 0 and the row is cleared (SCOPE 3.3). `state` is only what a refusal gives back: {0} will do the first time.
  * Refusals 1 to 4.
  */
 NidhaagufAnswer nidhaaguf_set_up(NidhaagufState state, NidhaagufService service, NidhaagufServers servers,
                                  uint32_t *row, size_t row_length);
 
-/* Sets the weight of server `number`. Its connections stay with it, also at weight 0. Refusals 15, 5. */
+/* Sets the weight of server `number`. Its connections stay with it, also at weight 0. Refusals 15, 5 (SCOPE 5.1). */
 NidhaagufAnswer nidhaaguf_set_weight(NidhaagufState state, const uint32_t *row, size_t row_length,
                                      uint32_t number, uint16_t weight);
 
 /*
  * Gives in `number` how many connections server `number` has, as of the latest accepted clock: tick first to leave the
- * idle ones out. A server of weight 0 and count 0 may be taken away. Refusals 15, 5.
+ * idle ones out (SCOPE 8.15). A server of weight 0 and count 0 may be taken away; docs/CLAIM.md says what that means.
+ * Refusals 15, 5.
  */
 NidhaagufAnswer nidhaaguf_count(NidhaagufState state, const uint32_t *row, size_t row_length, uint32_t number);
 
 /*
  * Moves the clock to `clock`, in seconds, and removes the connections that are idle then (UDP 300 s; TCP 900 s, or
- * 120 s once both have sent FIN); `number` says how many. Refusals 15, 11.
+ * 120 s once both have sent FIN: SCOPE 8.12); `number` says how many. Refusals 15, 11.
  */
 NidhaagufAnswer nidhaaguf_tick(NidhaagufState state, uint32_t *row, size_t row_length, uint32_t clock);
 

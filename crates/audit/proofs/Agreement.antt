@@ -56,7 +56,7 @@ pub record Agree (d : Director) (l : List Slot) (b : Book) : Type 0 where
 pub agreed : (d : Director) (l : List Slot) (given : List Server) (es : List Entry) → Matches d l given es → Agree d l (bookAt d given es)
 agreed d l given es t = record { given = given; entries = es; book = refl; matches = t }
 
--- "no client has two entries"
+-- "no client has two entries" (SCOPE 9.11)
 pub once : (d : Director) (l : List Slot) (given : List Server) (es : List Entry) → Matches d l given es
     → (address port : ℕ) → countOf (ofClient address port) es ≤ 1
 once d l given es t address port =

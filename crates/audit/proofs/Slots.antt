@@ -25,7 +25,7 @@ use Rattle.director.specs.Carry.{phaseOf, phaseAfter}
 use Rattle.audit.specs.Book.{Entry, ofClient, limit, isStruck, byClient, marked, onClient}
 use Rattle.lists.proofs.Selecting.{count-map, count-keep, count-split, count-one}
 
--- who has finished in a phase: "2 the client has sent FIN; 3 the server has; 4 both"
+-- who has finished in a phase: "2 the client has sent FIN; 3 the server has; 4 both" (SCOPE 8.6)
 abbrev clientIn : ℕ → Bool
 clientIn phase = eqb phase 2 || eqb phase 4
 

@@ -81,7 +81,7 @@ module _ (s : State) (given : List Server) (es : List Entry) (sound : soundOf (s
   unchanged : Agree d l b
   unchanged = agreed d l given es t
 
-  -- "a server's count is the number of entries naming it"
+  -- "a server's count is the number of entries naming it" (SCOPE 9.10)
   pub counts : (k : ℕ) → k < d .service .servers → countAt (d .servers) k ≡ countOf (names k) es
   counts k h =
       let parts = sound-parts d row sound in

@@ -1,4 +1,4 @@
--- The book of 01, worked out from the record of calls and answers alone. Assumes nothing: these are definitions.
+-- The book (SCOPE section 9), worked out from the record of calls and answers alone. Assumes nothing: these are definitions.
 use Prim.Native.Nat.{ℕ, _-_}
 use mathlib.Core.Bool.{Bool, true, false, cond, not, _&&_, _||_}
 use mathlib.Core.List.{List, [], _∷_, map}
@@ -15,7 +15,7 @@ use Rattle.director.specs.State.{refusalNumber}
 use Rattle.director.specs.Segment.{segmentRead}
 use Rattle.audit.specs.Calls.{Call, setUp, setWeight, count, tick, packet, Line}
 
--- "An entry is a connection: client address and port, server number, which of the two have finished (sent FIN), last second."
+-- "An entry is a connection: client address and port, server number, which of the two have finished (sent FIN), last second." (SCOPE 9.3)
 pub record Entry : Type 0 where
   pub address : ℕ
   pub port : ℕ
@@ -24,7 +24,7 @@ pub record Entry : Type 0 where
   pub serverDone : Bool
   pub last : ℕ
 
--- "It holds the latest accepted settings, a clock and entries."
+-- "It holds the latest accepted settings, a clock and entries." (SCOPE 9.2)
 pub record Book : Type 0 where
   pub service : Service
   pub servers : List Server
@@ -39,7 +39,7 @@ ofClient address port e = eqb (e .address) address && eqb (e .port) port
 abbrev pub names : ℕ → Entry → Bool
 names k e = eqb (e .server) k
 
--- "at or above 300 (UDP), 900 (TCP) or 120 (TCP, both finished)"
+-- "at or above 300 (UDP), 900 (TCP) or 120 (TCP, both finished)" (SCOPE 9.5)
 abbrev pub limit : ℕ → Bool → ℕ
 limit protocol bothDone = cond (eqb protocol 17) 300 (cond bothDone 120 900)
 
@@ -47,7 +47,7 @@ limit protocol bothDone = cond (eqb protocol 17) 300 (cond bothDone 120 900)
 abbrev pub isStruck : (protocol now : ℕ) → Entry → Bool
 isStruck protocol now e = leb (limit protocol (e .clientDone && e .serverDone)) (now - e .last)
 
--- "the clock becomes it. Then each entry is struck for which clock less last second is at or above" its limit
+-- "the clock becomes it. Then each entry is struck for which clock less last second is at or above" (SCOPE 9.5) its limit
 abbrev pub struck : Book → ℕ → Book
 struck b now = record {
   service = b .service;
@@ -64,11 +64,11 @@ abbrev pub byClient : Sender → Bool
 byClient Sender.Client = true
 byClient (Sender.Server i) = false
 
--- "Opened" "adds an entry: its client, the answer's server, none finished, last second the clock"
+-- "Opened" "adds an entry: its client, the answer's server, none finished, last second the clock" (SCOPE 9.6)
 abbrev pub newEntry : Segment → (k now : ℕ) → Entry
 newEntry m k now = record { address = m .address; port = m .port; server = k; clientDone = false; serverDone = false; last = now }
 
--- "Kept": "the clock as last second, and a TCP FIN marks its sender finished" (UDP has no flags)
+-- "Kept": "the clock as last second, and a TCP FIN marks its sender finished" (SCOPE 9.7; UDP has no flags)
 abbrev pub marked : Segment → ℕ → Entry → Entry
 marked m now e = record {
   address = e .address;
@@ -89,7 +89,7 @@ entered b m k Change.Opened = withEntries b (newEntry m k (b .clock) ∷ b .entr
 entered b m k Change.Kept = withEntries b (map (onClient m (marked m (b .clock))) (b .entries))
 entered b m k Change.Ended = withEntries b (keep (λ e. not (ofClient (m .address) (m .port) e)) (b .entries))
 
--- "An accepted clock is one handed to a tick or packet call that got past 11 .., also where the answer is then 12, 13 or 14."
+-- "An accepted clock is one handed to a tick or packet call that got past 11 .., also where the answer is then 12, 13 or 14." (SCOPE 2.9)
 abbrev pub clockKept : List ℕ
 clockKept = 12 ∷ 13 ∷ 14 ∷ []
 
@@ -123,14 +123,14 @@ abbrev pub noteSeen : Book → Answer → Seen → Book
 noteSeen b a (Seen.Refused why) = b
 noteSeen b a (Seen.Segment m) = noteAnswer b m a
 
--- "Accepted setup: its settings, clock 0, no entries."
+-- "Accepted setup: its settings, clock 0, no entries." (SCOPE 9.4)
 abbrev pub noteSetup : Book → Service → List Server → Answer → Book
 noteSetup b g given Answer.Done = record { service = g; servers = given; clock = 0; entries = [] }
 noteSetup b g given (Answer.Number n) = b
 noteSetup b g given (Answer.Passed i change) = b
 noteSetup b g given (Answer.Refused why) = b
 
--- the book after one call and its answer: "All else, each other refusal included, changes nothing."
+-- the book after one call and its answer: "All else, each other refusal included, changes nothing." (SCOPE 9.9)
 abbrev pub note : Book → Call → Answer → Book
 note b (setUp g given) a = noteSetup b g given a
 note b (setWeight k w) a = b

@@ -14,7 +14,7 @@ use Rattle.director.specs.Control.{weightOf, countCallOf}
 use Rattle.director.specs.Tick.{tickOf}
 use Rattle.director.specs.Packets.{packetOf}
 
--- a call's "arguments without state and rows, a packet as it was handed in"
+-- a call's "arguments without state and rows, a packet as it was handed in" (SCOPE 9.1)
 pub data Call : Type 0 where
   setUp : Service → List Server → Call
   setWeight : ℕ → ℕ → Call
@@ -32,7 +32,7 @@ Fits (count k) = Unit {0}
 Fits (tick now) = Unit {0}
 Fits (packet way p now) = Bytes p
 
--- what passes from call to call: "each is handed the state and row that the one before gave back"
+-- what passes from call to call: "each is handed the state and row that the one before gave back" (SCOPE 3.1)
 pub record State : Type 0 where
   pub director : Director
   pub row : List ℕ

@@ -1,4 +1,4 @@
--- 01's examples P1 to P11 as one table: what the written rules give, beside what 01 prints. Assumes nothing: these are definitions.
+-- The examples P1 to P11 (SCOPE section 11) as one table: what the written rules give, beside what SCOPE prints. Assumes nothing: these are definitions.
 use Prim.Native.Nat.{ℕ, zero, suc, _/_, _%_}
 use mathlib.Core.List.{List, [], _∷_, _++_, map}
 use mathlib.Core.Path.{_≡_}
@@ -20,7 +20,7 @@ use Rattle.director.specs.State.{Result, refusalNumber}
 use Rattle.director.specs.Tick.{tickOf}
 use Rattle.director.specs.Packets.{packetOf}
 
--- an example: what the rules give, and what 01 prints
+-- an example: what the rules give, and what SCOPE prints
 pub record Case : Type 0 where
   pub given : List ℕ
   pub printed : List ℕ
@@ -47,7 +47,7 @@ picksOf k s m = picks k s m (startOf k (length s))
 
 -- Calls
 
--- the bytes of 32-bit words, highest byte first, so that packets read as in 01
+-- the bytes of 32-bit words, highest byte first, so that packets read as in SCOPE
 abbrev pub bytes : List ℕ → List ℕ
 bytes [] = []
 bytes (w ∷ ws) = (w / 16777216) ∷ (w / 65536 % 256) ∷ (w / 256 % 256) ∷ (w % 256) ∷ bytes ws
@@ -136,6 +136,6 @@ table =
         let r = opening (directorOf 6 k (server 6432 0 0 ∷ server 6433 0 0 ∷ []) 0) in
         record { given = answered (r .answer) ∷ walked (r .director .walk); printed = 14 ∷ walk }
 
--- what the rules give is what 01 prints, in every case
+-- what the rules give is what SCOPE prints, in every case (SCOPE 13.7)
 abbrev pub Examples : Type 0
 Examples = map (λ (c : Case). c .given) table ≡ map (λ (c : Case). c .printed) table

@@ -14,7 +14,7 @@ use Rattle.nidhaaguf.specs.declared.reply.Reply.{Reply}
 use Rattle.nidhaaguf.specs.State.{decoded}
 use Rattle.nidhaaguf.specs.Reply.{Replied, exported}
 
--- what a program passes from call to call: "each is handed the state and row that the one before gave back"
+-- what a program passes from call to call: "each is handed the state and row that the one before gave back" (SCOPE 3.1)
 pub record Handed : Type 0 where
   pub state : State
   pub row : List ℕ

@@ -16,11 +16,11 @@ use Rattle.callers.specs.Calls.{Handed, decodedState, replyTo, afterCall
 
 -- what holds after every call of a list, of what the program has in its hands and of the book of what it saw; and of whatever call comes next
 pub record Claim (h : Handed) (b : Book) : Type 0 where
-  -- "a server's count is the number of entries naming it": the `count` of each server in the struct
+  -- "a server's count is the number of entries naming it" (SCOPE 9.10): the `count` of each server in the struct
   pub counts : (k : ℕ) → k < b .service .servers → countAt (h .state .servers) k ≡ countOf (names k) (b .entries)
-  -- "no client has two entries"
+  -- "no client has two entries" (SCOPE 9.11)
   pub once : (address port : ℕ) → countOf (ofClient address port) (b .entries) ≤ 1
-  -- "No state that an accepted setup and the calls after it have made ever receives 15."
+  -- "No state that an accepted setup and the calls after it have made ever receives 15." (SCOPE 6.8)
   pub never15 : (c : Call) → eqb (replyTo h c .reply .refusal) 15 ≡ false
   -- what is claimed of each kind of call, of the numbers, the struct, the row and the packet that it gives back
   pub calls : (c : Call) → Fits c → CallClaim (decodedState h) b c (seen h c)

@@ -33,7 +33,7 @@ fin-phase phase (Sender.Server i) old =
     by-test (IsPhase 4) (eqb phase 1) 3 _ (λ e. (refl, omega arith)) (λ e. by-test (IsPhase 4) (eqb phase 2) 4 phase (λ q. (refl, omega arith)) (λ q. old))
 
 module _ (protocol : ℕ) where
-  -- "UDP stays in 1": it has no FIN
+  -- "UDP stays in 1" (SCOPE 8.9): it has no FIN
   phase-kept : (phase : ℕ) (fin : Bool) (sender : Sender) → (eqb protocol 17 ≡ true → fin ≡ false)
       → IsPhase (lastPhase protocol) phase → IsPhase (lastPhase protocol) (phaseOf phase fin sender)
   phase-kept phase false sender udp old = old

@@ -23,7 +23,7 @@ use Rattle.director.specs.declared.segment.Segment.{Segment}
 use Rattle.director.specs.declared.decide.Decision.{Decision}
 use Rattle.director.specs.State.{Lent, withTable, withPacket, Held, refusal}
 
--- "An inbound FIN moves 1 to 2 and 3 to 4; outbound moves 1 to 3 and 2 to 4."
+-- "An inbound FIN moves 1 to 2 and 3 to 4; outbound moves 1 to 3 and 2 to 4." (SCOPE 8.7)
 abbrev pub phaseOnFin : ℕ → Sender → ℕ
 phaseOnFin phase Sender.Client = cond (eqb phase 1) 2 (cond (eqb phase 3) 4 phase)
 phaseOnFin phase (Sender.Server i) = cond (eqb phase 1) 3 (cond (eqb phase 2) 4 phase)
@@ -37,7 +37,7 @@ abbrev pub phaseAfter : Segment → Slot → ℕ
 phaseAfter m s = phaseOf (s .phase) (m .flags .fin) (m .sender)
 
 -- the packet sent on: "Inbound rewriting sets destination address and port to the server's. Outbound sets source address and port to the
--- virtual ones."
+-- virtual ones." (SCOPE 7.4)
 abbrev pub sentOn : Service → Server → List ℕ → Sender → List ℕ
 sentOn g v p Sender.Client = redirected (g .protocol) Side.Destination (v .address) (v .port) p
 sentOn g v p (Sender.Server i) = redirected (g .protocol) Side.Source (g .address) (g .port) p
@@ -50,7 +50,7 @@ forwarded d k p sender = sentOn (d .service) (serverAt (d .servers) k) p sender
 abbrev pub withServers : Director → List Server → Walk → Director
 withServers d servers walk = record { service = d .service; servers = servers; walk = walk; clock = d .clock }
 
--- an accepted packet of server no: "return the server number and one of: opened, ended, kept"
+-- an accepted packet of server no: "return the server number and one of: opened .., ended .., kept" (SCOPE 7.9)
 abbrev pub passedBy : Director → ServerNo → Change → Outcome
 passedBy d i change = record { answer = Answer.Passed i change; director = d }
 
@@ -58,19 +58,19 @@ abbrev pub passed : Director → Lent (List Slot) → Segment → ServerNo → C
 passed d x m i change =
     record { answer = Answer.Passed i change; director = d; lent = withPacket x (forwarded d (i .0) (x .packet) (m .sender)) }
 
--- kept: "Every accepted packet sets last-seen."
+-- kept: "Every accepted packet sets last-seen." (SCOPE 8.10)
 abbrev pub keptHeld : Director → Lent (List Slot) → Segment → ℕ → Held
 keptHeld d x m k =
     let s = getD (x .table) k freeSlot in
     passed d (withTable x (touched (x .table) k (phaseAfter m s) (d .clock))) m (s .server) Change.Kept
 
--- ended: "the slot zeroed, the count lowered"
+-- ended: "the slot zeroed, the count lowered" (SCOPE 8.8)
 abbrev pub endedHeld : Director → Lent (List Slot) → Segment → ℕ → Held
 endedHeld d x m k =
     let s = getD (x .table) k freeSlot in
     passed (withServers d (lowered (d .servers) (s .server .0)) (d .walk)) (withTable x (freed (x .table) k)) m (s .server) Change.Ended
 
--- opened: "phase 1, last-seen the clock, server's count plus 1"
+-- opened: "phase 1, last-seen the clock, server's count plus 1" (SCOPE 8.4)
 abbrev pub openedHeld : Director → Lent (List Slot) → Segment → ℕ → ServerNo → Walk → Held
 openedHeld d x m k i walk =
     passed (withServers d (raised (d .servers) (i .0)) walk) (withTable x (opened (x .table) k (m .address) (m .port) (i .0) (d .clock))) m i Change.Opened

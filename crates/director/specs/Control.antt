@@ -12,7 +12,7 @@ use Rattle.director.specs.declared.judge.Verdict.{Verdict}
 use Rattle.director.specs.State.{Result, lent, refusal}
 use Rattle.director.specs.Judge.{soundOf}
 
--- "Weight and count 15, 5."
+-- "Weight and count 15, 5." (SCOPE 5.1)
 unfoldable pub numberJudged : Director → List ℕ → ℕ → Verdict
 numberJudged d row k =
     cond (soundOf d row)
@@ -40,6 +40,6 @@ abbrev pub onCount : Director → List ℕ → ℕ → Verdict → Result
 onCount d row k (Verdict.Refused why) = refusal why d (lent row [])
 onCount d row k Verdict.Accepted = record { answer = Answer.Number (countAt (d .servers) k); director = d; lent = lent row [] }
 
--- the count call: "it tells the count as of the latest accepted" clock
+-- the count call: "it tells the count as of the latest accepted" (SCOPE 8.15) clock
 unfoldable pub countCallOf : Director → List ℕ → ℕ → Result
 countCallOf d row k = onCount d row k (numberJudged d row k)

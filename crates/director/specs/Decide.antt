@@ -19,11 +19,11 @@ use Rattle.director.specs.declared.segment.Sender.{Sender}
 use Rattle.director.specs.declared.segment.Segment.{Segment}
 use Rattle.director.specs.declared.decide.Decision.{Decision}
 
--- "SYN set and ACK, RST, FIN clear"
+-- "SYN set and ACK, RST, FIN clear" (SCOPE 8.3)
 abbrev pub isSyn : Flags → Bool
 isSyn f = not (f .ack) && (not (f .rst) && (not (f .fin) && f .syn))
 
--- "TCP inbound with SYN set and ACK, RST, FIN clear; any UDP inbound"; "Outbound packets open nothing."
+-- "TCP inbound with SYN set and ACK, RST, FIN clear; any UDP inbound" (SCOPE 8.3); "Outbound packets open nothing." (SCOPE 8.5)
 abbrev pub opensBy : ℕ → Flags → Sender → Bool
 opensBy protocol f Sender.Client = cond (eqb protocol 6) (isSyn f) true
 opensBy protocol f (Sender.Server i) = false
@@ -31,12 +31,12 @@ opensBy protocol f (Sender.Server i) = false
 abbrev pub opens : ℕ → Segment → Bool
 opens protocol m = opensBy protocol (m .flags) (m .sender)
 
--- "An outbound packet belongs to it only if the source is its server; otherwise 12."
+-- "An outbound packet belongs to it only if the source is its server; otherwise 12." (SCOPE 8.2)
 abbrev pub belongs : Sender → ServerNo → Bool
 belongs Sender.Client i = true
 belongs (Sender.Server source) i = eqb (source .0) (i .0)
 
--- a packet of the connection in slot k: "RST is looked at first"
+-- a packet of the connection in slot k: "RST is looked at first" (SCOPE 8.8)
 abbrev pub onRst : SlotNo → Bool → Decision
 onRst k true = Decision.End k
 onRst k false = Decision.Keep k
@@ -53,7 +53,7 @@ onPick k (Picked.Server i walk) = Decision.Open k i walk
 abbrev pub onFree : Director → SlotNo → Decision
 onFree d k = onPick k (pickOf (d .service .scheduler) (d .servers) (d .service .servers) (d .walk))
 
--- 13 where no slot is free; "The lowest free slot is taken"
+-- 13 where no slot is free; "The lowest free slot is taken" (SCOPE 8.4)
 abbrev pub onRoom : Director → Found → Decision
 onRoom d Found.Nothing = Decision.Refuse Refusal.TableFull
 onRoom d (Found.At k) = onFree d k
@@ -67,6 +67,6 @@ abbrev pub onClient : Director → List Slot → Segment → Found → Decision
 onClient d l m (Found.At k) = onPresent m k (getD l (k .0) freeSlot)
 onClient d l m Found.Nothing = onAbsent d l m
 
--- "A connection is known by client address and port": 12, 13 and 14 in their order, or what becomes of it
+-- "A connection is known by client address and port" (SCOPE 8.1): 12, 13 and 14 in their order, or what becomes of it
 unfoldable pub decided : Director → List Slot → Segment → Decision
 decided d l m = onClient d l m (firstFrom (ofClient (m .address) (m .port)) 0 l)

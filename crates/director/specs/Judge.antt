@@ -21,11 +21,11 @@ isProtocol protocol = eqb protocol 6 || eqb protocol 17
 abbrev pub isScheduler : ℕ → Bool
 isScheduler scheduler = leb 1 scheduler && leb scheduler 4
 
--- 2 where this fails: "virtual address 0 or port 0, protocol not 6 or 17, scheduler not 1..4"
+-- 2 where this fails: "virtual address 0 or port 0, protocol not 6 or 17, scheduler not 1..4" (SCOPE 4.2)
 abbrev pub serviceRight : Service → Bool
 serviceRight g = not (eqb (g .address) 0) && not (eqb (g .port) 0) && isProtocol (g .protocol) && isScheduler (g .scheduler)
 
--- 1 where this fails: "servers not 1..64, or row length not as above"
+-- 1 where this fails: "servers not 1..64, or row length not as above" (SCOPE 4.1)
 abbrev pub sizesRight : ℕ → List ℕ → Bool
 sizesRight n row = leb 1 n && leb n 64 && isRow row
 
@@ -45,13 +45,13 @@ abbrev pub isAccepted : Verdict → Bool
 isAccepted Verdict.Accepted = true
 isAccepted (Verdict.Refused why) = false
 
--- "unused server places are zeros"; the slots and counts are sound; "the walk's place is in its range"
+-- "unused server places are zeros" (SCOPE 6.2); the slots and counts are sound; "the walk's place is in its range" (SCOPE 6.6)
 unfoldable pub partsSound : Director → List ℕ → Bool
 partsSound d row =
     allKeep (Rule.UnusedFrom (d .service .servers)) (d .servers) 64
     && inRange (d .service .scheduler) (d .servers) (d .service .servers) (d .walk)
     && tableSound (d .service .protocol) (d .service .servers) (d .clock) row (d .servers)
 
--- "Sound means: the rules of 1 to 4 hold", and the parts are sound
+-- "Sound means: the rules of 1 to 4 hold" (SCOPE 6.1), and the parts are sound
 unfoldable pub soundOf : Director → List ℕ → Bool
 soundOf d row = isAccepted (settingsJudged (d .service) (d .servers) row) && partsSound d row

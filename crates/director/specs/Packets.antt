@@ -38,6 +38,6 @@ abbrev pub packetOnSound : Way → Director → Lent (List ℕ) → ℕ → Bool
 packetOnSound way d x now true = inWords (packetHeld way d (inSlots x) now)
 packetOnSound way d x now false = refusal Refusal.Unsound d x
 
--- a packet call: "Packets 15, 6 to 11, then 12 to 14."
+-- a packet call: "Packets 15, 6 to 11, then 12 to 14." (SCOPE 5.1)
 unfoldable pub packetOf : Way → Director → (row packet : List ℕ) → ℕ → Result
 packetOf way d row packet now = packetOnSound way d (lent row packet) now (soundOf d row)

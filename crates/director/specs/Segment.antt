@@ -15,17 +15,17 @@ use Rattle.director.specs.declared.state.Way.{Way}
 use Rattle.director.specs.declared.segment.Sender.{Sender}
 use Rattle.director.specs.declared.segment.Seen.{Seen}
 
--- "an inbound packet's source" is its client
+-- "an inbound packet's source" (SCOPE 8.1) is its client
 abbrev pub inboundSegment : Packet → Seen
 inboundSegment p =
     Seen.Segment (record { address = p .source; port = p .transport .source; sender = Sender.Client; flags = p .transport .flags })
 
--- 10: "destination is not the virtual address and port"
+-- 10: "destination is not the virtual address and port" (SCOPE 4.10)
 abbrev pub fromClient : Service → Packet → Seen
 fromClient g p =
     cond (eqb (p .destination) (g .address) && eqb (p .transport .destination) (g .port)) (inboundSegment p) (Seen.Refused Refusal.OtherEndpoint)
 
--- "an outbound packet's destination" is its client; 10: "source is no server's address and port"
+-- "an outbound packet's destination" (SCOPE 8.1) is its client; 10: "source is no server's address and port" (SCOPE 4.10)
 abbrev pub onNumber : Packet → Found → Seen
 onNumber p Found.Nobody = Seen.Refused Refusal.OtherEndpoint
 onNumber p (Found.At i) =

@@ -12,7 +12,7 @@ use Rattle.director.specs.declared.judge.Verdict.{Verdict}
 use Rattle.director.specs.State.{Result, lent, refusal}
 use Rattle.director.specs.Judge.{settingsJudged}
 
--- "Accepted, setup zeroes the row, all counts and the clock, and puts the walk at its start."
+-- "Accepted, setup zeroes the row, all counts and the clock, and puts the walk at its start." (SCOPE 3.3)
 abbrev pub newDirector : Service → List Server → Director
 newDirector g given = record {
   service = g;
@@ -26,6 +26,6 @@ onVerdict d g given row (Verdict.Refused why) = refusal why d (lent row [])
 onVerdict d g given row Verdict.Accepted =
     record { answer = Answer.Done; director = newDirector g given; lent = lent (zeroed row) [] }
 
--- setup: "handed the present state beside its settings and doesn't judge it; refused, it gives that state back"
+-- setup: "handed the present state beside its settings and doesn't judge it; refused, it gives that state back" (SCOPE 3.2)
 unfoldable pub setupOf : Director → Service → List Server → List ℕ → Result
 setupOf d g given row = onVerdict d g given row (settingsJudged g given row)

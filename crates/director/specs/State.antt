@@ -1,4 +1,4 @@
--- The director's answers in 01's numbers, and the result of a call. Assumes nothing: these are definitions.
+-- The numbers of refusals (SCOPE section 4), and the result of a call. Assumes nothing: these are definitions.
 use Prim.Native.Nat.{ℕ}
 use mathlib.Core.Bool.{Bool, true, false, not}
 use mathlib.Core.List.{List}
@@ -10,7 +10,7 @@ use Rattle.director.specs.declared.state.Refusal.{Refusal}
 use Rattle.director.specs.declared.state.Answer.{Answer}
 use Rattle.director.specs.declared.state.Outcome.{Outcome}
 
--- 01's "Numbers given on refusal"
+-- "Numbers given on refusal" (SCOPE section 4)
 abbrev pub refusalNumber : Refusal → ℕ
 refusalNumber Refusal.Size = 1
 refusalNumber Refusal.Service = 2
@@ -26,7 +26,7 @@ refusalNumber Refusal.NoWeight = 14
 refusalNumber Refusal.Unsound = 15
 
 -- what a refusal keeps: "After 11 is passed, the clock is stored and idle connections are removed; 12, 13 and 14 keep that and change nothing
--- else." All others "change nothing, the clock included."
+-- else." (SCOPE 5.4) All others "change nothing, the clock included." (SCOPE 5.3)
 abbrev pub keepsClock : Refusal → Bool
 keepsClock Refusal.Size = false
 keepsClock Refusal.Service = false
@@ -87,7 +87,7 @@ inSlots x = withTable x (slots (x .table))
 abbrev pub inWords : Held → Result
 inWords h = record { answer = h .answer; director = h .director; lent = withTable (h .lent) (words (h .lent .table)) }
 
--- "A refusal's answer is its number alone; the state comes back beside it."
+-- "A refusal's answer is its number alone; the state comes back beside it." (SCOPE 5.5)
 abbrev pub refusedBy : Refusal → Director → Outcome
 refusedBy why d = record { answer = Answer.Refused why; director = d }
 

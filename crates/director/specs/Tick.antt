@@ -17,7 +17,7 @@ use Rattle.director.specs.Judge.{soundOf}
 abbrev pub idleNow : Director → ℕ → Slot → Bool
 idleNow d now s = isIdle (d .service .protocol) now s
 
--- "After 11 is passed, the clock is stored and idle connections are removed": the state, and the slots
+-- "After 11 is passed, the clock is stored and idle connections are removed" (SCOPE 5.4): the state, and the slots
 abbrev pub settled : Director → List Slot → ℕ → Director
 settled d l now = record { service = d .service; servers = loweredBy (idleNow d now) l (d .servers); walk = d .walk; clock = now }
 
@@ -41,6 +41,6 @@ abbrev pub tickOnSound : Director → Lent (List ℕ) → ℕ → Bool → Resul
 tickOnSound d x now true = inWords (tickHeld d (inSlots x) now)
 tickOnSound d x now false = refusal Refusal.Unsound d x
 
--- the tick call: "Tick 15, 11."
+-- the tick call: "Tick 15, 11." (SCOPE 5.1)
 unfoldable pub tickOf : Director → List ℕ → ℕ → Result
 tickOf d row now = tickOnSound d (lent row []) now (soundOf d row)

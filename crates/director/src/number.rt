@@ -1,4 +1,4 @@
-// The numbers of refusals, and what a refusal keeps.
+// The numbers of refusals (SCOPE section 4), and what a refusal keeps (SCOPE 5.3, 5.4).
 use crate::state::Refusal;
 use packet::read::fault_number;
 ghost use mathlib.Core.Path.{_≡_};

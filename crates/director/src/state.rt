@@ -34,7 +34,7 @@ pub enum Way {
     Outbound,
 }
 
-// Why a call is refused; `refusalNumber` gives 01's number.
+// Why a call is refused; `refusalNumber` gives its number (SCOPE section 4).
 pub enum Refusal {
     // 1: number of servers or length of the row
     Size,

@@ -1,4 +1,4 @@
--- What a call gives back to C: the director's answer in 01's numbers, beside the state. Assumes nothing: these are definitions.
+-- What a call gives back to C: the director's answer in numbers (SCOPE section 4), beside the state. Assumes nothing: these are definitions.
 use Prim.Native.Nat.{ℕ}
 use mathlib.Core.Bool.{cond}
 use mathlib.Core.List.{List}
@@ -11,21 +11,21 @@ use Rattle.nidhaaguf.specs.declared.reply.Reply.{Reply}
 use Rattle.nidhaaguf.specs.declared.reply.Told.{Told}
 use Rattle.nidhaaguf.specs.State.{encoded}
 
--- "one of: opened .., ended .., kept"
+-- "one of: opened .., ended .., kept" (SCOPE 7.9)
 abbrev pub changeNumber : Change → ℕ
 changeNumber Change.Opened = 1
 changeNumber Change.Kept = 2
 changeNumber Change.Ended = 3
 
 -- an answer in numbers: 0 for an accepted call, or the refusal; the number is the count, or how many connections the tick removed, or the
--- packet's server. "A refusal's answer is its number alone"
+-- packet's server. "A refusal's answer is its number alone" (SCOPE 5.5)
 abbrev pub toldBy : Answer → Told
 toldBy Answer.Done = record { refusal = 0; number = 0; change = 0 }
 toldBy (Answer.Number n) = record { refusal = 0; number = n; change = 0 }
 toldBy (Answer.Passed i change) = record { refusal = 0; number = i .0; change = changeNumber change }
 toldBy (Answer.Refused why) = record { refusal = refusalNumber why; number = 0; change = 0 }
 
--- what is told, with "the state .. beside it"
+-- what is told, with "the state .. beside it" (SCOPE 5.5)
 abbrev pub beside : State → Told → Reply
 beside s t = record { state = s; refusal = t .refusal; number = t .number; change = t .change }
 

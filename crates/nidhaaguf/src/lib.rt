@@ -1,5 +1,5 @@
 // The director's six calls for C and Rust: the state by value as plain numbers (include/nidhaaguf.h), row and packet lent.
-// Each call decodes the state, calls the director and replies in 01's numbers. No call requires anything of its arguments.
+// Each call decodes the state, calls the director and replies in numbers (SCOPE section 4). No call requires anything of its arguments.
 pub mod reply;
 pub mod state;
 

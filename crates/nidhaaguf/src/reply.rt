@@ -1,4 +1,4 @@
-// What a call gives back to C: the director's outcome in 01's numbers.
+// What a call gives back to C: the director's outcome in numbers (SCOPE section 4).
 use crate::state::State;
 use crate::state::encode;
 use director::number::keeps_clock;
@@ -15,7 +15,7 @@ ghost use Rattle.nidhaaguf.specs.Reply.{changeNumber, toldBy, stateAt, r
 #[repr(C)]
 pub struct Reply {
     pub state: State,
-    // 0 for accepted, else 01's number
+    // 0 for accepted, else the refusal's number
     pub refusal: u32,
     // of an accepted count or tick call its number, of an accepted packet its server, else 0
     pub number: u32,
@@ -53,7 +53,7 @@ fn changes_nothing(answer: Answer) -> bool
     }
 }
 
-// An answer in 01's numbers.
+// An answer in numbers.
 fn told_by(answer: Answer) -> Told
     ensures { λ r. ⌜ r ≡ toldBy answer ⌝ }
 {

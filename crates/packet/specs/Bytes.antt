@@ -28,7 +28,7 @@ headerLength p = getD p 0 0 % 16 * 4
 abbrev pub totalLength : List ℕ → ℕ
 totalLength p = wordAt p 2
 
--- 01, "Payload means total length less header length"
+-- "Payload means total length less header length" (SCOPE 7.2)
 abbrev pub payloadLength : List ℕ → ℕ
 payloadLength p = totalLength p - headerLength p
 
@@ -36,6 +36,6 @@ payloadLength p = totalLength p - headerLength p
 abbrev pub header : List ℕ → List ℕ
 header p = take (headerLength p) p
 
--- the transport part, which begins where the IP header's own length says and ends at the total length
+-- the transport part, which begins where the IP header's own length says (SCOPE 7.1) and ends at the total length
 abbrev pub payload : List ℕ → List ℕ
 payload p = take (payloadLength p) (drop (headerLength p) p)

@@ -40,13 +40,13 @@ pub record Given (protocol a′ port : ℕ) (p : List ℕ) (r : Packet) : Type 0
   pub address-fits : a′ < 4294967296
   pub port-fits : port < 65536
 
--- 01, "the outgoing one verifies exactly if the incoming one did (UDP 0 apart)"; the header checksum too
+-- "the outgoing one verifies exactly if the incoming one did (UDP 0 apart)" (SCOPE 7.7); the header checksum too
 pub record VerifiesExactly (protocol : ℕ) (side : Side) (a′ port : ℕ) (p : List ℕ) : Type 0 where
   pub header : headerVerifies (redirected protocol side a′ port p) ≡ headerVerifies p
   pub tcp : protocol ≡ 6 → transportVerifies protocol (redirected protocol side a′ port p) ≡ transportVerifies protocol p
   pub udp : protocol ≢ 6 → transportChecksum protocol p ≢ 0 → transportVerifies protocol (redirected protocol side a′ port p) ≡ transportVerifies protocol p
 
--- a valid checksum leaves as a fresh calculation would give it, also one that came as FFFF; UDP's 0 means none and stays 0
+-- a valid checksum leaves as a fresh calculation would give it (SCOPE 7.8), also one that came as FFFF; UDP's 0 means none and stays 0
 pub record LeavesFresh (protocol : ℕ) (side : Side) (a′ port : ℕ) (p : List ℕ) : Type 0 where
   pub header : wordAt (redirected protocol side a′ port p) 10 ≡ freshHeader (redirected protocol side a′ port p)
   pub tcp : protocol ≡ 6 → transportVerifies protocol p ≡ true
@@ -66,7 +66,7 @@ pub record Kept (protocol : ℕ) (side : Side) (a′ port : ℕ) (p : List ℕ) 
       → Outside (headerLength p + portPlace side) 2 i → Outside (headerLength p + sumPlace protocol) 2 i
       → getD (redirected protocol side a′ port p) i 0 ≡ getD p i 0
 
--- 01, "Bytes past the total length are neither read nor written": with any others there, reading finds the same and redirecting leaves them
+-- "Bytes past the total length are neither read nor written" (SCOPE 7.3): with any others there, reading finds the same and redirecting leaves them
 pub record PastTotal (protocol : ℕ) (side : Side) (a′ port : ℕ) (p rest : List ℕ) : Type 0 where
   pub unread : readPacket protocol (take (totalLength p) p ++ rest) ≡ readPacket protocol p
   pub unwritten : redirected protocol side a′ port (take (totalLength p) p ++ rest) ≡ take (totalLength p) (redirected protocol side a′ port p) ++ rest
@@ -86,7 +86,7 @@ pub record Laws : Type 0 where
   pub kept : (protocol : ℕ) (side : Side) (a′ port : ℕ) (p : List ℕ) → Redirectable protocol p → Kept protocol side a′ port p
   pub past-total : (protocol : ℕ) (side : Side) (a′ port : ℕ) (p : List ℕ) (r : Packet) (rest : List ℕ) → readPacket protocol p ≡ Taken r → PastTotal protocol side a′ port p rest
   pub verifies-exactly : (protocol : ℕ) (side : Side) (a′ port : ℕ) (p : List ℕ) (r : Packet) → Given protocol a′ port p r → VerifiesExactly protocol side a′ port p
-  -- the new address and port are not 0 (01's refusals 2 and 3)
+  -- the new address and port are not 0 (SCOPE 4.2, 4.3)
   pub leaves-fresh : (protocol : ℕ) (side : Side) (a′ port : ℕ) (p : List ℕ) (r : Packet) → Given protocol a′ port p r → 0 < a′ → 0 < port → LeavesFresh protocol side a′ port p
   -- reading the redirected packet finds the address and port that were set, and all else as it was
   pub read-again : (protocol : ℕ) (side : Side) (a′ port : ℕ) (p : List ℕ) (r : Packet) → Given protocol a′ port p r

@@ -1,4 +1,4 @@
--- What reading a packet finds (RFC 791, 9293, 768), and which of 01's refusals 6 to 9 it meets. Assumes nothing: these are definitions.
+-- What reading a packet finds (RFC 791, 9293, 768), and which of refusals 6 to 9 it meets (SCOPE 4.6 to 4.9). Assumes nothing: these are definitions.
 use Prim.Native.Nat.{ℕ, _*_, _/_, _%_, _≤_}
 use mathlib.Core.Path.{_≡_}
 use mathlib.Core.List.{List, [], _∷_}
@@ -16,7 +16,7 @@ use Rattle.packet.specs.declared.read.Packet.{Packet}
 use Rattle.packet.specs.declared.read.Reading.{Reading}
 use Rattle.packet.specs.declared.read.Reading.the-variants.{Refused, Taken}
 
--- 01's number for each fault
+-- the number of each fault (SCOPE 4.6 to 4.9)
 abbrev pub faultNumber : Fault → ℕ
 faultNumber Fault.MalformedHeader = 6
 faultNumber Fault.Fragment = 7
@@ -32,7 +32,7 @@ anyOf (t ∷ ts) = t || anyOf ts
 abbrev pub headerVerifies : List ℕ → Bool
 headerVerifies p = verifies (wordsOf (header p))
 
--- 6: packet under 20 bytes; version not 4; header length word under 5; total length below header length or above the bytes given;
+-- SCOPE 4.6: packet under 20 bytes; version not 4; header length word under 5; total length below header length or above the bytes given;
 -- header checksum not valid
 abbrev pub brokenTests : List ℕ → List Bool
 brokenTests p =
@@ -56,18 +56,18 @@ pub record Whole (p : List ℕ) : Type 0 where
   pub within : totalLength p ≤ length p
   pub valid : headerVerifies p ≡ true
 
--- 7: more-fragments set (bit 13 of the word), or fragment offset (the bits below it) not 0
+-- SCOPE 4.7: more-fragments set (bit 13 of the word), or fragment offset (the bits below it) not 0
 unfoldable pub fragment : List ℕ → Bool
 fragment p = eqb (wordAt p 6 / 8192 % 2) 1 || not (eqb (wordAt p 6 % 8192) 0)
 
--- 9 for TCP: payload under 20 bytes, data offset under 5 words or past the payload
+-- SCOPE 4.9 for TCP: payload under 20 bytes, data offset under 5 words or past the payload
 abbrev pub tcpTests : List ℕ → List Bool
 tcpTests t = ltb (length t) 20 ∷ ltb (getD t 12 0 / 16) 5 ∷ ltb (length t) (getD t 12 0 / 16 * 4) ∷ []
 
 unfoldable pub tcpMalformed : List ℕ → Bool
 tcpMalformed t = anyOf (tcpTests t)
 
--- 9 for UDP: payload under 8, or UDP length not the payload length
+-- SCOPE 4.9 for UDP: payload under 8, or UDP length not the payload length
 abbrev pub udpTests : List ℕ → List Bool
 udpTests t = ltb (length t) 8 ∷ not (eqb (wordAt t 4) (length t)) ∷ []
 
@@ -112,7 +112,7 @@ withTransport p (Carried t) = Taken (described p t)
 abbrev pub readPayload : ℕ → List ℕ → Reading
 readPayload protocol p = withTransport p (readTransport protocol (payload p))
 
--- the first of refusals 6 to 9 that applies, in that order; else the packet
+-- the first of refusals 6 to 9 that applies, in that order (SCOPE 5.1); else the packet
 unfoldable pub readPacket : ℕ → List ℕ → Reading
 readPacket protocol p =
     cond (broken p) (Refused Fault.MalformedHeader)

@@ -28,7 +28,7 @@ sumPlace protocol = cond (eqb protocol 6) 16 6
 abbrev pub editedAddress : ℕ → ℕ → ℕ → ℕ
 editedAddress sum a a′ = edited (edited sum (a / 65536) (a′ / 65536)) (a % 65536) (a′ % 65536)
 
--- the packet with the address at a place become a′; 01, "The header checksum is edited over the two address words"
+-- the packet with the address at a place become a′; "The header checksum is edited over the two address words" (SCOPE 7.5)
 unfoldable pub headerEdited : ℕ → ℕ → List ℕ → List ℕ
 headerEdited at a′ p = setAddress (setWord p 10 (editedAddress (wordAt p 10) (addressAt p at) a′)) at a′
 
@@ -36,7 +36,7 @@ headerEdited at a′ p = setAddress (setWord p 10 (editedAddress (wordAt p 10) (
 abbrev pub transmitted : ℕ → ℕ
 transmitted sum = cond (eqb sum 0) 65535 sum
 
--- 01, "UDP checksum 0 stays 0; a UDP result of 0 is written FFFF"
+-- "UDP checksum 0 stays 0; a UDP result of 0 is written FFFF" (SCOPE 7.6)
 abbrev pub udpWritten : ℕ → ℕ → ℕ
 udpWritten sum sum′ = cond (eqb sum 0) 0 (transmitted sum′)
 
@@ -48,7 +48,7 @@ sumWritten protocol sum sum′ = cond (eqb protocol 6) sum′ (udpWritten sum su
 abbrev pub transportSum : ℕ → ℕ → ℕ → ℕ → ℕ → List ℕ → ℕ
 transportSum protocol at a a′ port t = edited (editedAddress (wordAt t (sumPlace protocol)) a a′) (wordAt t at) port
 
--- the transport part with the port at a place set; 01, "the transport checksum over these and the port word"
+-- the transport part with the port at a place set; "the transport checksum over these and the port word" (SCOPE 7.5)
 unfoldable pub transportEdited : ℕ → ℕ → ℕ → ℕ → ℕ → List ℕ → List ℕ
 transportEdited protocol at a a′ port t =
     setWord (setWord t at port) (sumPlace protocol) (sumWritten protocol (wordAt t (sumPlace protocol)) (transportSum protocol at a a′ port t))

@@ -31,7 +31,7 @@ pub enum Transport {
     Carried(TransportHeader),
 }
 
-// Why a packet is refused; `faultNumber` gives 01's number.
+// Why a packet is refused; `faultNumber` gives its number (SCOPE 4.6 to 4.9).
 pub enum Fault {
     MalformedHeader,
     Fragment,
@@ -39,7 +39,7 @@ pub enum Fault {
     MalformedTransport,
 }
 
-// 01's number of a fault.
+// The number of a fault (SCOPE 4.6 to 4.9).
 pub fn fault_number(fault: Fault) -> u8
     ensures { λ r. ⌜ r ≡ faultNumber fault ⌝ }
 {

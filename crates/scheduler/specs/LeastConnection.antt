@@ -11,7 +11,7 @@ use Rattle.scheduler.specs.declared.least_connection.Load.{Load}
 use Rattle.scheduler.specs.declared.walk.Walk.{Walk}
 use Rattle.scheduler.specs.declared.walk.Picked.{Picked}
 
--- the load of a beside b: its count (scheduler 3), or its side in "count/weight .. compared by cross products" (4)
+-- the load of a beside b: its count (scheduler 3), or its side in "count/weight .. compared by cross products" (4: SCOPE 10.9)
 abbrev pub loadBeside : Load → Server → Server → ℕ
 loadBeside Load.Count a b = a .count
 loadBeside Load.PerWeight a b = a .count * b .weight
@@ -20,12 +20,12 @@ loadBeside Load.PerWeight a b = a .count * b .weight
 abbrev pub lighterBy : Load → Server → Server → Bool
 lighterBy by a b = ltb (loadBeside by a b) (loadBeside by b a)
 
--- server k, whose weight is above 0, beside the best of those before it: "ties to the lowest number"
+-- server k, whose weight is above 0, beside the best of those before it: "ties to the lowest number" (SCOPE 10.8, 10.9)
 abbrev pub against : Load → List Server → ℕ → Found → Found
 against by s k Found.Nobody = Found.At (record { 0 = k })
 against by s k (Found.At b) = cond (lighterBy by (serverAt s k) (serverAt s (b .0))) (Found.At (record { 0 = k })) (Found.At b)
 
--- the best with server k regarded too: "among weights above 0"
+-- the best with server k regarded too: "among weights above 0" (SCOPE 10.8, 10.9)
 abbrev pub betterOf : Load → List Server → Found → ℕ → Found
 betterOf by s best k = cond (eqb (weightAt s k) 0) best (against by s k best)
 

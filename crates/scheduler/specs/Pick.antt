@@ -1,4 +1,4 @@
--- "Who is picked", by the scheduler's number. Assumes nothing: this is a definition.
+-- "Who is picked" (SCOPE section 10), by the scheduler's number. Assumes nothing: this is a definition.
 use mathlib.Core.Bool.{cond}
 use mathlib.Core.List.{List}
 use Prim.Native.Nat.{ℕ}

@@ -17,6 +17,6 @@ keepsLevel i cw = cw
 abbrev pub weighs : List Server → ℕ → ℕ → Bool
 weighs s i cw = ltb 0 (weightAt s i)
 
--- "the next number in the ring with weight above 0"
+-- "the next number in the ring with weight above 0" (SCOPE 10.3)
 abbrev pub roundRobinOf : List Server → ℕ → Walk → Picked
 roundRobinOf s n w = ringOf keepsLevel (weighs s) n w

@@ -18,14 +18,14 @@ unfoldable pub gcdOf : ℕ → ℕ → ℕ
 unfolding euclid
 gcdOf a b = euclid b a b
 
--- "the greatest common divisor of all weights (zeros don't affect it)", of the first n servers
+-- "the greatest common divisor of all weights (zeros don't affect it)" (SCOPE 10.5), of the first n servers
 abbrev pub weightsGcd : List Server → ℕ → ℕ
 weightsGcd s n = foldBelow (λ g k. gcdOf g (weightAt s k)) 0 n
 
--- "the largest weight" of the first n servers
+-- "the largest weight" (SCOPE 10.5) of the first n servers
 abbrev pub largestOf : List Server → ℕ → ℕ
 largestOf s n = foldBelow (λ m k. max m (weightAt s k)) 0 n
 
--- "every weight is 0", of the first n servers (refusal 14)
+-- "every weight is 0" (SCOPE 4.14), of the first n servers (refusal 14)
 abbrev pub noWeight : List Server → ℕ → Bool
 noWeight s n = eqb (largestOf s n) 0

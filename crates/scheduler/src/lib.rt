@@ -1,4 +1,4 @@
-// Picks a server for a new connection, by one of four schedulers (document 001). One file for each scheduler.
+// Picks a server for a new connection, by one of four schedulers (SCOPE section 10). One file for each scheduler.
 pub mod least_connection;
 pub mod round_robin;
 pub mod walk;

@@ -12,7 +12,7 @@ pub enum Place {
     At(ServerNo),
 }
 
-// The walk: its place (i, or the last pick), and the level of weighted round-robin, which is 01's cw.
+// The walk: its place (i, or the last pick), and the level of weighted round-robin (cw in SCOPE 10.5).
 pub struct Walk {
     pub place: Place,
     pub level: u16,

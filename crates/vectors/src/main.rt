@@ -1,4 +1,4 @@
-// The scope paper's examples that are not proved, and the published vectors of RFC 1071 and 1624, run.
+// The examples that are not proved (SCOPE E1 to E4), and the published vectors of RFC 1071 and 1624, run.
 use checksum::edit;
 use checksum::ones_sum;
 use director::control::set_weight;

@@ -1,9 +1,9 @@
 //! `bench SIDE CALL SLOTS SERVERS REPS`: makes a sound state with all but one slot used, and repeats one call on it.
 //!
 //! SIDE is library, reference or plain; CALL is kept, opening or tick. With `--one-port` each client has an address of its own and all
-//! have one port, instead of few addresses with many ports. Count two runs with different REPS under callgrind:
-//! their difference is the calls alone (the script `bench` at the top of the repository does that). With `--time` it
-//! prints nanoseconds a call instead.
+//! have one port, instead of few addresses with many ports; with `--scheduler=N` the scheduler is N and not 1. Count two runs with
+//! different REPS under callgrind: their difference is the calls alone (the script `bench` at the top of the repository does that).
+//! With `--time` it prints nanoseconds a call instead.
 
 mod plain;
 mod scene;
@@ -16,11 +16,13 @@ fn main() {
     let given = |flag: &str| words.iter().any(|word| word == flag);
     let timed = given("--time");
     let clients = if given("--one-port") { Clients::OnePort } else { Clients::FewAddresses };
+    let scheduler = words.iter().find_map(|word| word.strip_prefix("--scheduler=")).unwrap_or("1");
+    let scheduler = scheduler.parse().expect("a scheduler's number");
     let words: Vec<&str> =
         words.iter().map(String::as_str).filter(|word| !word.starts_with("--")).collect();
     let [side, call, slots, servers, reps] = words[..] else { usage() };
     let number = |text: &str| text.parse::<usize>().expect("a number");
-    let scene = Scene::new(number(slots), number(servers), clients);
+    let scene = Scene::new(number(slots), number(servers), clients, scheduler);
     let reps = number(reps);
     let begin = Instant::now();
     let told = run(&scene, side, call, reps);
@@ -32,7 +34,7 @@ fn main() {
 }
 
 fn usage() -> ! {
-    eprintln!("usage: bench library|reference|plain kept|opening|tick SLOTS SERVERS REPS [--time] [--one-port]");
+    eprintln!("usage: bench library|reference|plain kept|opening|tick SLOTS SERVERS REPS [--time] [--one-port] [--scheduler=N]");
     std::process::exit(2);
 }
 

@@ -40,17 +40,17 @@ pub struct Scene {
 }
 
 impl Scene {
-    /// All slots used but the last, by clients of their own; of one slot, it is used.
-    pub fn new(slots: usize, servers: usize, clients: Clients) -> Scene {
+    /// All slots used but the last, by clients of their own; of one slot, it is used. The walk is at the scheduler's start.
+    pub fn new(slots: usize, servers: usize, clients: Clients, scheduler: u8) -> Scene {
         let service = raw::Service {
             address: VIRTUAL,
             port: 5432,
             protocol: 6,
-            scheduler: 1,
+            scheduler,
             servers: servers as u32,
         };
-        let mut state =
-            raw::State { service, clock: CLOCK, place: servers as u64, ..raw::State::default() };
+        let place = walk_start(scheduler, servers);
+        let mut state = raw::State { service, clock: CLOCK, place, ..raw::State::default() };
         for (number, server) in state.servers[..servers].iter_mut().enumerate() {
             *server = raw::Server {
                 address: 0x0A010001 + number as u32,
@@ -82,6 +82,15 @@ impl Scene {
     fn set_packet(&mut self, call: Call) {
         let from = if call == Call::Opening { &self.opening } else { &self.kept };
         self.packet.copy_from_slice(from);
+    }
+}
+
+/// Where a scheduler's walk starts, as the state has it: 0 before the first server, k + 1 at server k.
+fn walk_start(scheduler: u8, servers: usize) -> u64 {
+    match scheduler {
+        1 => servers as u64,
+        2 => 0,
+        _ => 1,
     }
 }
 

@@ -1,6 +1,6 @@
-//! A packet director written from the scope paper (01) alone, as a second opinion.
+//! A packet director written from the text of the rules alone (docs/SCOPE.md has them), as a second opinion.
 //!
-//! Simple rather than fast: every call judges the whole state first.
+//! Simple rather than fast: every call judges the whole state first. Words in quotation marks are the rules' own.
 
 #![forbid(unsafe_code)]
 

@@ -1,4 +1,4 @@
-//! One test program; each module holds one subject of the scope paper (01).
+//! One test program; each module holds one subject of the rules (docs/SCOPE.md).
 
 mod book;
 mod checksums;
