@@ -10,8 +10,7 @@ use Rattle.servers.specs.Servers.{unused}
 use Rattle.scheduler.specs.declared.walk.Place.{Place}
 use Rattle.scheduler.specs.declared.walk.Walk.{Walk}
 use Rattle.scheduler.specs.declared.walk.Picked.{Picked}
-use Rattle.scheduler.specs.Pick.{pickOf}
-use Rattle.scheduler.specs.Walk.{startOf}
+use Rattle.scheduler.specs.ByNumber.{startOf, pickOf}
 use Rattle.table.specs.Slots.{slotOf, words}
 use Rattle.director.specs.declared.state.Director.{Director}
 use Rattle.director.specs.declared.state.Answer.{Answer}

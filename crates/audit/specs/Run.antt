@@ -7,7 +7,7 @@ use Rattle.audit.specs.Examples.{bytes}
 use Rattle.servers.specs.declared.Server.{Server}
 use Rattle.servers.specs.declared.ServerNo.{ServerNo}
 use Rattle.servers.specs.Servers.{unused}
-use Rattle.scheduler.specs.Walk.{startOf}
+use Rattle.scheduler.specs.ByNumber.{startOf}
 use Rattle.director.specs.declared.state.Service.{Service}
 use Rattle.director.specs.declared.state.Refusal.{Refusal}
 use Rattle.director.specs.declared.state.Change.{Change}

@@ -1,17 +1,16 @@
 -- What is decided of a packet in a sound state: a slot that is kept or ended is a connection's; a connection opens in a free slot, to an
 -- existing server, and its walk is in range. Assumes nothing.
-use Prim.Native.Nat.{ℕ, _<_, _≤_}
+use Prim.Native.Nat.{ℕ, _<_}
 use mathlib.Core.Bool.{Bool, true, false, not, _&&_}
 use mathlib.Core.List.{List}
 use mathlib.Core.Path.{_≡_, refl}
-use borrow.Author.Tests.{leb-true, not-true}
-use lib.Dec.{eqb, leb}
+use borrow.Author.Tests.{not-true}
+use lib.Dec.{eqb}
 use lib.ListN.{length}
 use Rattle.lists.proofs.Cases.{both, by-test}
 use Rattle.scheduler.specs.declared.walk.Walk.{Walk}
 use Rattle.scheduler.specs.declared.walk.Picked.{Picked}
-use Rattle.scheduler.specs.Walk.{inRange}
-use Rattle.scheduler.specs.Pick.{pickOf}
+use Rattle.scheduler.specs.ByNumber.{isScheduler, inRange, pickOf}
 use Rattle.scheduler.specs.Laws.{PickFound}
 use Rattle.scheduler.proofs.Picks.{pick-found}
 use Rattle.table.specs.declared.slot.SlotNo.{SlotNo}
@@ -24,7 +23,7 @@ use Rattle.director.specs.declared.state.Service.{Service}
 use Rattle.director.specs.declared.state.Director.{Director}
 use Rattle.director.specs.declared.segment.Segment.{Segment}
 use Rattle.director.specs.declared.decide.Decision.{Decision}
-use Rattle.director.specs.Judge.{isProtocol, isScheduler, serviceRight}
+use Rattle.director.specs.Judge.{isProtocol, serviceRight}
 use Rattle.director.specs.Decide.{opens, belongs, onRst, onPick, onRoom, onClient, decided}
 use Rattle.director.proofs.Sound.{Sound}
 
@@ -47,12 +46,10 @@ Grounded d row (Decision.Keep k) = HasConnection row (k .0)
 Grounded d row (Decision.End k) = HasConnection row (k .0)
 Grounded d row (Decision.Open k i walk) = CanOpen d row (k .0) (i .0) walk
 
--- schedulers 1 to 4
-scheduler-known : (g : Service) → serviceRight g ≡ true → (0 < g .scheduler) × (g .scheduler ≤ 4)
+scheduler-known : (g : Service) → serviceRight g ≡ true → isScheduler (g .scheduler) ≡ true
 scheduler-known g e =
     let front = not (eqb (g .address) 0) && not (eqb (g .port) 0) && isProtocol (g .protocol) in
-    let (low, high) = both (leb 1 (g .scheduler)) (leb (g .scheduler) 4) (both front (isScheduler (g .scheduler)) e .1) in
-    (leb-true 1 (g .scheduler) low, leb-true (g .scheduler) 4 high)
+    both front (isScheduler (g .scheduler)) e .1
 
 module _ (d : Director) (row : List ℕ) (sound : Sound d row) where
   whole : IsRow row
@@ -68,9 +65,9 @@ module _ (d : Director) (row : List ℕ) (sound : Sound d row) where
   by-room Found.Nothing e = whole
   by-room (Found.At k) e =
       let low = found-lowest isUnused (slots row) (k .0) e in
-      let (some, most) = scheduler-known (d .service) (sound .settings .right) in
       by-pick k (low .within) (low .passes) (pickOf (d .service .scheduler) (d .servers) (d .service .servers) (d .walk))
-      (pick-found (d .service .scheduler) (d .servers) (d .service .servers) (d .walk) some most (sound .range))
+      (pick-found (d .service .scheduler) (d .servers) (d .service .servers) (d .walk)
+      (scheduler-known (d .service) (sound .settings .right)) (sound .range))
 
   by-rst : (k : SlotNo) → HasConnection row (k .0) → (rst : Bool) → Grounded d row (onRst k rst)
   by-rst k has true = has

@@ -4,7 +4,7 @@ use mathlib.Core.List.{List, []}
 use lib.ListN.{length, replicate}
 use Rattle.servers.specs.declared.Server.{Server}
 use Rattle.servers.specs.Fresh.{freshServers}
-use Rattle.scheduler.specs.Walk.{startOf}
+use Rattle.scheduler.specs.ByNumber.{startOf}
 use Rattle.director.specs.declared.state.Service.{Service}
 use Rattle.director.specs.declared.state.Director.{Director}
 use Rattle.director.specs.declared.state.Answer.{Answer}

@@ -13,7 +13,7 @@ use Rattle.checksum.specs.Ones.{Bytes}
 use Rattle.servers.specs.declared.Server.{Server}
 use Rattle.servers.specs.Servers.{countAt}
 use Rattle.scheduler.specs.declared.walk.Picked.{Picked}
-use Rattle.scheduler.specs.Pick.{pickOf}
+use Rattle.scheduler.specs.ByNumber.{pickOf}
 use Rattle.table.specs.declared.slot.Slot.{Slot}
 use Rattle.table.specs.declared.slot.SlotNo.{SlotNo}
 use Rattle.table.specs.declared.find.Found.{Found}
