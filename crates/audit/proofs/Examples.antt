@@ -5,7 +5,7 @@ use Rattle.lists.specs.Tests.{countOf, allOf}
 use Rattle.checksum.specs.Ones.{edited}
 use Rattle.packet.specs.Reading.{broken, fragment, tcpMalformed, readPacket}
 use Rattle.packet.specs.Redirect.{headerEdited, sumWritten, transportEdited, redirected}
-use Rattle.scheduler.specs.Walk.{ringFrom}
+use Rattle.scheduler.specs.Ring.{ringFrom}
 use Rattle.scheduler.specs.Weights.{euclid, gcdOf}
 use Rattle.table.specs.Slots.{slots, words}
 use Rattle.table.specs.Find.{firstFrom}

@@ -14,7 +14,7 @@ use Rattle.checksum.specs.Ones.{Bytes}
 use Rattle.packet.specs.Reading.{broken, fragment, tcpMalformed, readPacket}
 use Rattle.servers.specs.declared.Server.{Server}
 use Rattle.servers.specs.Servers.{unused, serverAt}
-use Rattle.scheduler.specs.Walk.{ringFrom}
+use Rattle.scheduler.specs.Ring.{ringFrom}
 use Rattle.table.specs.Slots.{slots, words}
 use Rattle.table.specs.Find.{firstFrom}
 use Rattle.table.specs.Expire.{cleared, loweredBy}

@@ -10,8 +10,7 @@ use Rattle.servers.specs.Servers.{unused}
 use Rattle.scheduler.specs.declared.walk.Place.{Place}
 use Rattle.scheduler.specs.declared.walk.Walk.{Walk}
 use Rattle.scheduler.specs.declared.walk.Picked.{Picked}
-use Rattle.scheduler.specs.Pick.{pickOf}
-use Rattle.scheduler.specs.Walk.{startOf}
+use Rattle.scheduler.specs.ByNumber.{startOf, pickOf}
 use Rattle.table.specs.Slots.{slotOf, words}
 use Rattle.director.specs.declared.state.Director.{Director}
 use Rattle.director.specs.declared.state.Answer.{Answer}
@@ -27,9 +26,13 @@ pub record Case : Type 0 where
 
 -- Picks
 
+-- a server
+abbrev pub serverOf : (address port weight count : ℕ) → Server
+serverOf address port weight count = record { address = address; port = port; weight = weight; count = count }
+
 -- a server of a weight and a count, at a port of its own
-abbrev pub server : ℕ → ℕ → ℕ → Server
-server port w c = record { address = 0x0A010005; port = port; weight = w; count = c }
+abbrev pub server : (port weight count : ℕ) → Server
+server port weight count = serverOf 0x0A010005 port weight count
 
 -- the server picked, and what follows from the walk after it; nothing where nobody is
 abbrev pub follow : Picked → (Walk → List ℕ) → List ℕ

@@ -3,11 +3,11 @@ use Prim.Native.Nat.{ℕ}
 use mathlib.Core.List.{List, [], _∷_, map}
 use mathlib.Core.Path.{_≡_}
 use lib.ListN.{replicate}
-use Rattle.audit.specs.Examples.{bytes}
+use Rattle.audit.specs.Examples.{serverOf, bytes}
 use Rattle.servers.specs.declared.Server.{Server}
 use Rattle.servers.specs.declared.ServerNo.{ServerNo}
 use Rattle.servers.specs.Servers.{unused}
-use Rattle.scheduler.specs.Walk.{startOf}
+use Rattle.scheduler.specs.ByNumber.{startOf}
 use Rattle.director.specs.declared.state.Service.{Service}
 use Rattle.director.specs.declared.state.Refusal.{Refusal}
 use Rattle.director.specs.declared.state.Change.{Change}
@@ -21,10 +21,7 @@ service = record { address = 0xC000020A; port = 5432; protocol = 6; scheduler = 
 
 -- 10.1.0.5:6432, P11's server, and 10.1.0.6:6432
 abbrev pub twoServers : List Server
-twoServers =
-    record { address = 0x0A010005; port = 6432; weight = 1; count = 0 }
-    ∷ record { address = 0x0A010006; port = 6432; weight = 1; count = 0 }
-    ∷ replicate 62 unused
+twoServers = serverOf 0x0A010005 6432 1 0 ∷ serverOf 0x0A010006 6432 1 0 ∷ replicate 62 unused
 
 -- a state that is not sound, over a row of two slots
 abbrev pub before : State

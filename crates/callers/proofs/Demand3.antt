@@ -1,14 +1,13 @@
 -- Demand 3 as a program in C or Rust sees it: what it passes from call to call is the director's state, so the director's claim holds of it.
 -- Assumes nothing.
-use Prim.Native.Nat.{ℕ}
 use mathlib.Core.Bool.{false}
 use mathlib.Core.List.{List, [], _∷_}
 use mathlib.Core.Path.{_≡_, refl, sym, ap, subst, _∙_}
 use lib.Dec.{eqb}
 use Rattle.director.specs.declared.state.Answer.{Answer}
 use Rattle.director.specs.State.{Result}
-use Rattle.audit.specs.Calls.{Call, setUp, AllFit, Fits, Line, State as DirectorState, called, next, after, recordOf}
-use Rattle.audit.specs.Book.{Book, bookOf}
+use Rattle.audit.specs.Calls.{Call, setUp, AllFit, Fits, State as DirectorState, called, next, after, recordOf}
+use Rattle.audit.specs.Book.{Book}
 use Rattle.audit.specs.Claim.{refused, CallClaim, Claim as DirectorClaim}
 use Rattle.audit.proofs.Demand3.{demand3}
 use Rattle.nidhaaguf.specs.Reply.{toldBy}

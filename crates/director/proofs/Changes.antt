@@ -12,7 +12,7 @@ use Rattle.servers.specs.Rules.{allKeep}
 use Rattle.servers.proofs.Ends.{SameEnds, ends-chain, set-same, new-same}
 use Rattle.servers.proofs.Kept.{ends-set, unused-set}
 use Rattle.scheduler.specs.declared.walk.Walk.{Walk}
-use Rattle.scheduler.specs.Walk.{inRange}
+use Rattle.scheduler.specs.ByNumber.{inRange}
 use Rattle.scheduler.proofs.Ranges.{count-in-range}
 use Rattle.table.specs.Slots.{slots, isRow}
 use Rattle.table.specs.Sound.{slotsSound, tableSound}

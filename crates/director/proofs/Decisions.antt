@@ -1,18 +1,17 @@
 -- What is decided of a packet in a sound state, with its reasons: all that the layers above need to know of a decision. Assumes nothing.
-use Prim.Native.Nat.{ℕ, _<_, _≤_}
+use Prim.Native.Nat.{ℕ, _<_}
 use mathlib.Core.Bool.{Bool, true, false, not, _&&_, true≢false, false≢true}
 use mathlib.Core.List.{List}
 use mathlib.Core.Path.{_≡_, refl}
-use borrow.Author.Tests.{leb-true, not-true}
-use lib.Dec.{eqb, leb}
+use borrow.Author.Tests.{not-true}
+use lib.Dec.{eqb}
 use lib.ListN.{getD}
 use Rattle.lists.proofs.Cases.{both, by-test}
 use Rattle.packet.specs.declared.read.Flags.{Flags}
 use Rattle.servers.specs.declared.ServerNo.{ServerNo}
 use Rattle.scheduler.specs.declared.walk.Walk.{Walk}
 use Rattle.scheduler.specs.declared.walk.Picked.{Picked}
-use Rattle.scheduler.specs.Walk.{inRange}
-use Rattle.scheduler.specs.Pick.{pickOf}
+use Rattle.scheduler.specs.ByNumber.{isScheduler, inRange, pickOf}
 use Rattle.scheduler.specs.Laws.{PickFound}
 use Rattle.scheduler.proofs.Picks.{pick-found}
 use Rattle.table.specs.declared.slot.Slot.{Slot}
@@ -28,7 +27,7 @@ use Rattle.director.specs.declared.segment.Sender.{Sender}
 use Rattle.director.specs.declared.segment.Segment.{Segment}
 use Rattle.director.specs.declared.decide.Decision.{Decision}
 use Rattle.director.specs.State.{refusalNumber, keepsClock}
-use Rattle.director.specs.Judge.{isProtocol, isScheduler, serviceRight}
+use Rattle.director.specs.Judge.{isProtocol, serviceRight}
 use Rattle.director.specs.Decide.{opensBy, opens, belongs, onRst, onPresent, onPick, onRoom, onAbsent, onClient, decided}
 use Rattle.director.proofs.Sound.{Sound}
 
@@ -82,12 +81,10 @@ others-open-none protocol f (Sender.Server j) i e = refl
 
 -- 3. Every decision has its grounds
 
--- schedulers 1 to 4
-scheduler-known : (g : Service) → serviceRight g ≡ true → (0 < g .scheduler) × (g .scheduler ≤ 4)
+scheduler-known : (g : Service) → serviceRight g ≡ true → isScheduler (g .scheduler) ≡ true
 scheduler-known g e =
     let front = not (eqb (g .address) 0) && not (eqb (g .port) 0) && isProtocol (g .protocol) in
-    let (low, high) = both (leb 1 (g .scheduler)) (leb (g .scheduler) 4) (both front (isScheduler (g .scheduler)) e .1) in
-    (leb-true 1 (g .scheduler) low, leb-true (g .scheduler) 4 high)
+    both front (isScheduler (g .scheduler)) e .1
 
 module _ (d : Director) (row : List ℕ) (sound : Sound d row) (m : Segment) where
   abbrev l : List Slot
@@ -137,9 +134,8 @@ module _ (d : Director) (row : List ℕ) (sound : Sound d row) (m : Segment) whe
       by-room : (f : Found) → firstFrom isUnused 0 l ≡ f → Goal (onRoom d f)
       by-room Found.Nothing e = full Refusal.TableFull refl refl
       by-room (Found.At k) e =
-          let (some, most) = scheduler-known (d .service) (sound .settings .right) in
           by-pick k (found-lowest isUnused l (k .0) e) (pickOf (d .service .scheduler) (d .servers) (d .service .servers) (d .walk))
-          (pick-found (d .service .scheduler) (d .servers) (d .service .servers) (d .walk) some most (sound .range))
+          (pick-found (d .service .scheduler) (d .servers) (d .service .servers) (d .walk) (scheduler-known (d .service) (sound .settings .right)) (sound .range))
 
     by-absent : Goal (onAbsent d l m)
     by-absent =

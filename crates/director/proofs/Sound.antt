@@ -9,7 +9,7 @@ use Rattle.lists.proofs.Cases.{both}
 use Rattle.servers.specs.declared.Server.{Server}
 use Rattle.servers.specs.declared.rules.Rule.{Rule}
 use Rattle.servers.specs.Rules.{allKeep}
-use Rattle.scheduler.specs.Walk.{inRange}
+use Rattle.scheduler.specs.ByNumber.{inRange}
 use Rattle.table.specs.Slots.{slots, words, isRow, IsRow}
 use Rattle.table.specs.Sound.{tableSound}
 use Rattle.table.proofs.Rows.{is-row, words-slots}

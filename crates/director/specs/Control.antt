@@ -4,7 +4,7 @@ use mathlib.Core.Bool.{cond}
 use mathlib.Core.List.{List, []}
 use lib.Dec.{ltb}
 use Rattle.servers.specs.Servers.{weightAt, countAt, withWeight}
-use Rattle.scheduler.specs.Walk.{afterWeight}
+use Rattle.scheduler.specs.ByNumber.{afterWeight}
 use Rattle.director.specs.declared.state.Director.{Director}
 use Rattle.director.specs.declared.state.Refusal.{Refusal}
 use Rattle.director.specs.declared.state.Answer.{Answer}

@@ -7,7 +7,7 @@ use lib.ListN.{getD}
 use Rattle.packet.specs.declared.read.Flags.{Flags}
 use Rattle.servers.specs.declared.ServerNo.{ServerNo}
 use Rattle.scheduler.specs.declared.walk.Picked.{Picked}
-use Rattle.scheduler.specs.Pick.{pickOf}
+use Rattle.scheduler.specs.ByNumber.{pickOf}
 use Rattle.table.specs.declared.slot.Slot.{Slot}
 use Rattle.table.specs.declared.slot.SlotNo.{SlotNo}
 use Rattle.table.specs.declared.find.Found.{Found}

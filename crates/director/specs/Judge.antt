@@ -6,7 +6,7 @@ use lib.Dec.{eqb, leb}
 use Rattle.servers.specs.declared.Server.{Server}
 use Rattle.servers.specs.declared.rules.Rule.{Rule}
 use Rattle.servers.specs.Rules.{allKeep}
-use Rattle.scheduler.specs.Walk.{inRange}
+use Rattle.scheduler.specs.ByNumber.{isScheduler, inRange}
 use Rattle.table.specs.Slots.{isRow}
 use Rattle.table.specs.Sound.{tableSound}
 use Rattle.director.specs.declared.state.Service.{Service}
@@ -17,9 +17,6 @@ use Rattle.director.specs.declared.judge.Verdict.{Verdict}
 -- TCP (6) or UDP (17)
 abbrev pub isProtocol : ℕ → Bool
 isProtocol protocol = eqb protocol 6 || eqb protocol 17
-
-abbrev pub isScheduler : ℕ → Bool
-isScheduler scheduler = leb 1 scheduler && leb scheduler 4
 
 -- 2 where this fails: "virtual address 0 or port 0, protocol not 6 or 17, scheduler not 1..4" (SCOPE 4.2)
 abbrev pub serviceRight : Service → Bool

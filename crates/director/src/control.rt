@@ -6,7 +6,7 @@ use crate::state::Director;
 use crate::state::Outcome;
 use crate::state::Refusal;
 use crate::state::refuse;
-use scheduler::walk::after_weight;
+use scheduler::after_weight;
 use servers::ServerNo;
 use servers::server_at;
 use servers::with_weight;

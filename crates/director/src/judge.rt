@@ -2,14 +2,15 @@
 use crate::state::Director;
 use crate::state::Refusal;
 use crate::state::Service;
-use scheduler::walk::in_range;
+use scheduler::in_range;
+use scheduler::is_scheduler;
 use servers::Server;
 use servers::rules::Rule;
 use servers::rules::all_keep;
 use table::slot::is_row;
 ghost use mathlib.Core.Path.{_≡_};
 ghost use Prim.Native.Nat.{_≤_};
-ghost use Rattle.director.specs.Judge.{isProtocol, isScheduler, serviceRight, sizesRight, settingsJudged, partsSound, soundOf};
+ghost use Rattle.director.specs.Judge.{isProtocol, serviceRight, sizesRight, settingsJudged, partsSound, soundOf};
 
 // What is said of settings.
 pub enum Verdict {
@@ -26,13 +27,6 @@ fn is_protocol(protocol: u8) -> bool
         17 => true,
         _ => false,
     }
-}
-
-// Whether a scheduler has one of the numbers 1 to 4.
-fn is_scheduler(scheduler: u8) -> bool
-    ensures { λ r. ⌜ r ≡ isScheduler scheduler ⌝ }
-{
-    (1 <= scheduler) & (scheduler <= 4)
 }
 
 // Whether refusal 2 is not given.

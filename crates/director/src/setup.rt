@@ -6,7 +6,7 @@ use crate::state::Director;
 use crate::state::Outcome;
 use crate::state::Service;
 use crate::state::refuse;
-use scheduler::walk::start;
+use scheduler::start;
 use servers::Server;
 use servers::fresh::fresh_servers;
 use table::clear::clear_row;

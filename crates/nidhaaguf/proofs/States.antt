@@ -1,46 +1,34 @@
 -- Decoding and encoding undo each other, and a place that no server number has makes a state unsound. Assumes nothing.
 use Prim.Native.Nat.{ℕ, _≤_, _<_, _+_, _-_}
-use mathlib.Core.Bool.{Bool, true, false, cond, not}
+use mathlib.Core.Bool.{true, false}
 use mathlib.Core.List.{List}
 use mathlib.Core.Logic.{⊎-elim}
 use mathlib.Core.Path.{_≡_, refl}
 use native.Mathlib.Omega.{arith}
-use lib.Dec.{eqb, leb, ltb}
-use borrow.Author.Tests.{ne-eqb, le-leb, lt-leb, ltb-true, leb-true, eqb-true, eqb-false}
-use Rattle.lists.proofs.Cases.{both, truth, by-test}
+use lib.Dec.{eqb, leb}
+use borrow.Author.Tests.{ne-eqb, le-leb, lt-leb, leb-true, eqb-true, eqb-false}
+use Rattle.lists.proofs.Cases.{truth, by-test}
 use Rattle.scheduler.specs.declared.walk.Place.{Place}
-use Rattle.scheduler.specs.declared.walk.Walk.{Walk}
-use Rattle.scheduler.specs.Walk.{inWeightedRange, restsAt, atServer, levelPlace}
-use Rattle.scheduler.specs.Weights.{largestOf}
+use Rattle.scheduler.specs.Laws.{Within}
+use Rattle.scheduler.proofs.Ranges.{place-in-range}
 use Rattle.director.specs.declared.state.Director.{Director}
 use Rattle.director.specs.Judge.{soundOf}
 use Rattle.director.proofs.Sound.{sound-parts}
 use Rattle.nidhaaguf.specs.declared.state.State.{State}
 use Rattle.nidhaaguf.specs.State.{placeOf, placeNumber, decoded, encoded}
 
--- a place at one of the first n servers has a number of at most n
-at-server : (n : ℕ) (p : Place) → atServer n p ≡ true → placeNumber p ≤ n
-at-server n Place.Start e = omega arith
-at-server n (Place.At i) e = omega (arith, ltb-true (i .0) n e)
-
-level-place : (n cw : ℕ) (p : Place) → levelPlace n cw p ≡ true → placeNumber p ≤ n
-level-place n cw Place.Start e = omega arith
-level-place n cw (Place.At i) e = at-server n (Place.At i) (both (not (eqb cw 0)) (ltb (i .0) n) e .1)
-
--- so has the place of a walk in its range, whichever its scheduler
-in-range : (weighted round : Bool) (m n : ℕ) (w : Walk) → 1 ≤ n
-    → cond weighted (inWeightedRange n m w) (restsAt (cond round n 1) w) ≡ true → placeNumber (w .place) ≤ n
-in-range true round m n w some e = level-place n (w .level) (w .place) (both (leb (w .level) m) _ e .1)
-in-range false true m n w some e = at-server n (w .place) (both (eqb (w .level) 0) _ e .1)
-in-range false false m n w some e = omega (arith, at-server 1 (w .place) (both (eqb (w .level) 0) _ e .1))
+-- a place that is -1 or at one of the first n servers has a number of at most n
+within : (n : ℕ) (p : Place) → Within n p → placeNumber p ≤ n
+within n Place.Start h = omega arith
+within n (Place.At i) h = omega arith
 
 -- a sound state's place
 pub sound-place : (d : Director) (row : List ℕ) → soundOf d row ≡ true → placeNumber (d .walk .place) ≤ 64
 sound-place d row e =
     let s = sound-parts d row e in
     let n = d .service .servers in
-    let k = d .service .scheduler in
-    omega (arith, s .settings .most, in-range (eqb k 2) (eqb k 1) (largestOf (d .servers) n) n (d .walk) (s .settings .some) (s .range))
+    let placed = place-in-range (d .service .scheduler) (d .servers) n (d .walk) (s .settings .some) (s .range) in
+    omega (arith, s .settings .most, within n (d .walk .place) placed)
 
 less-one : (k : ℕ) → (k + 1) - 1 ≡ k
 less-one k = omega arith

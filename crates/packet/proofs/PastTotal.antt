@@ -10,7 +10,7 @@ use lib.Seq.{length-take-le, take-append-le, drop-append-le, take-at, drop-at, t
 use borrow.Author.Tests.{le-ltb, eq-eqb}
 use Rattle.checksum.specs.Ones.{wordAt}
 use Rattle.packet.specs.Bytes.{addressAt, headerLength, totalLength, payloadLength, payload}
-use Rattle.packet.specs.Reading.{broken, fragment, readTransport, described, withTransport, readPacket, Whole}
+use Rattle.packet.specs.Reading.{broken, fragment, headerOf, readTransport, packetOf, withTransport, readPacket, Whole}
 use Rattle.packet.specs.Redirect.{addressPlace, redirected, Redirectable}
 use Rattle.packet.specs.Laws.{PastTotal}
 use Rattle.packet.specs.declared.read.Packet.{Packet}
@@ -95,11 +95,11 @@ module _ (protocol : ℕ) (p rest : List ℕ) (r : Packet) (taken : readPacket p
   unfolding readPacket
   unread =
       let own = eq-eqb (getD x 9 0) protocol (byte 9 (omega arith) ∙ was .own) in
-      let same : described x (r .transport) ≡ described p (r .transport) =
+      let same : packetOf (headerOf x) (r .transport) ≡ packetOf (headerOf p) (r .transport) =
       rw (header-same, total-same, word 12 (omega arith), word 14 (omega arith), word 16 (omega arith), word 18 (omega arith)) in
       let read : readPacket protocol x ≡ Taken r =
       rw (intact, unfragmented, own)
-      (ap (λ t. withTransport x (readTransport protocol t)) payload-same ∙ ap (withTransport x) (was .carried) ∙ ap Taken (same ∙ was .fields)) in
+      (ap (λ t. withTransport (headerOf x) (readTransport protocol t)) payload-same ∙ ap (withTransport (headerOf x)) (was .carried) ∙ ap Taken (same ∙ was .fields)) in
       read ∙ sym taken
 
   module _ (side : Side) (a′ port : ℕ) where

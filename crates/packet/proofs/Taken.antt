@@ -1,5 +1,5 @@
 -- What is known of a packet that was taken: it passed each of refusals 6 to 9, and it can be redirected.
-use mathlib.Core.Path.{_≡_, sym, ap, _∙_}
+use mathlib.Core.Path.{_≡_, refl, sym, ap, _∙_}
 use mathlib.Core.List.{List}
 use mathlib.Core.Bool.{Bool, true, false, cond, not}
 use Prim.Native.Nat.{ℕ, _+_, _<_}
@@ -9,13 +9,15 @@ use lib.Dec.{eqb}
 use borrow.Author.Tests.{ltb-false, eqb-true, not-false}
 use Rattle.lists.proofs.Cases.{second}
 use Rattle.packet.specs.declared.read.Fault.{Fault}
+use Rattle.packet.specs.declared.read.Header.{Header}
+use Rattle.packet.specs.declared.read.HeaderReading.{HeaderReading}
 use Rattle.packet.specs.declared.read.Packet.{Packet}
 use Rattle.packet.specs.declared.read.TransportHeader.{TransportHeader}
 use Rattle.packet.specs.declared.read.Transport.{Transport}
 use Rattle.packet.specs.declared.read.Transport.the-variants.{Malformed, Carried}
 use Rattle.packet.specs.declared.read.Reading.the-variants.{Refused, Taken}
 use Rattle.packet.specs.Bytes.{payload}
-use Rattle.packet.specs.Reading.{broken, fragment, tcpTests, tcpMalformed, udpTests, udpMalformed, readTcp, readUdp, readTransport, described, withTransport, readPacket}
+use Rattle.packet.specs.Reading.{broken, fragment, headerOf, readHeader, onHeader, tcpTests, tcpMalformed, udpTests, udpMalformed, readTcp, readUdp, readTransport, packetOf, withTransport, readPacket}
 use Rattle.packet.specs.Redirect.{sumPlace, Redirectable}
 use Rattle.packet.proofs.Whole.{none, whole}
 use Rattle.packet.proofs.Redirected.{payload-length}
@@ -26,29 +28,47 @@ refused f r e = let z : _≡_ {A = ℕ} 0 1 = cc in omega arith
 pub malformed : (t : TransportHeader) → Malformed ≡ Carried t → ⊥
 malformed t e = let z : _≡_ {A = ℕ} 0 1 = cc in omega arith
 
+-- what is known of a packet whose header was read: refusals 6 and 7 do not name it
+pub record HeaderRead (p : List ℕ) (h : Header) : Type 0 where
+  pub intact : broken p ≡ false
+  pub unfragmented : fragment p ≡ false
+  pub fields : headerOf p ≡ h
+
+unread : (f : Fault) (h : Header) → HeaderReading.Refused f ≡ HeaderReading.Read h → ⊥
+unread f h e = let z : _≡_ {A = ℕ} 0 1 = cc in omega arith
+
+pub header-read : (p : List ℕ) (h : Header) → readHeader p ≡ HeaderReading.Read h → HeaderRead p h
+header-read p h e =
+    let s₁ = second (broken p) _ _ _ (unread Fault.MalformedHeader h) e in
+    let s₂ = second (fragment p) _ _ _ (unread Fault.Fragment h) (s₁ .1) in
+    record { intact = s₁ .0; unfragmented = s₂ .0; fields = cc (s₂ .1) }
+
 pub record Accepted (protocol : ℕ) (p : List ℕ) (r : Packet) : Type 0 where
   pub intact : broken p ≡ false
   pub unfragmented : fragment p ≡ false
   pub own : getD p 9 0 ≡ protocol
   pub carried : readTransport protocol (payload p) ≡ Carried (r .transport)
-  pub fields : described p (r .transport) ≡ r
+  pub fields : packetOf (headerOf p) (r .transport) ≡ r
 
-with-transport : (p : List ℕ) (t : Transport) (r : Packet) → withTransport p t ≡ Taken r
-    → (t ≡ Carried (r .transport)) × (described p (r .transport) ≡ r)
-with-transport p Malformed r e = absurd (refused Fault.MalformedTransport r e)
-with-transport p (Carried t) r e =
-    let whole : described p t ≡ r = cc in
+with-transport : (h : Header) (t : Transport) (r : Packet) → withTransport h t ≡ Taken r
+    → (t ≡ Carried (r .transport)) × (packetOf h (r .transport) ≡ r)
+with-transport h Malformed r e = absurd (refused Fault.MalformedTransport r e)
+with-transport h (Carried t) r e =
+    let whole : packetOf h t ≡ r = cc in
     let same : t ≡ r .transport = ap (λ (x : Packet). x .transport) whole in
-    (ap Carried same, ap (described p) (sym same) ∙ whole)
+    (ap Carried same, ap (packetOf h) (sym same) ∙ whole)
 
 pub accepted : (protocol : ℕ) (p : List ℕ) (r : Packet) → readPacket protocol p ≡ Taken r → Accepted protocol p r
 unfolding readPacket
-accepted protocol p r e =
-    let s₁ = second (broken p) _ _ _ (refused Fault.MalformedHeader r) e in
-    let s₂ = second (fragment p) _ _ _ (refused Fault.Fragment r) (s₁ .1) in
-    let s₃ = second (not (eqb (getD p 9 0) protocol)) _ _ _ (refused Fault.OtherProtocol r) (s₂ .1) in
-    let s₄ = with-transport p (readTransport protocol (payload p)) r (s₃ .1) in
-    record { intact = s₁ .0; unfragmented = s₂ .0; own = eqb-true _ _ (not-false _ (s₃ .0)); carried = s₄ .0; fields = s₄ .1 }
+accepted protocol p r e = by-header (readHeader p) refl e
+  where
+    by-header : (x : HeaderReading) → readHeader p ≡ x → onHeader protocol p x ≡ Taken r → Accepted protocol p r
+    by-header (HeaderReading.Refused f) read e = absurd (refused f r e)
+    by-header (HeaderReading.Read h) read e =
+        let was = header-read p h read in
+        let (own, rest) = second (not (eqb (getD p 9 0) protocol)) _ _ _ (refused Fault.OtherProtocol r) (rw (← (was .fields)) at e) in
+        let (carried, fields) = with-transport (headerOf p) (readTransport protocol (payload p)) r rest in
+        record { intact = was .intact; unfragmented = was .unfragmented; own = eqb-true _ _ (not-false _ own); carried = carried; fields = fields }
 
 -- a transport part that was read has room for its checksum
 pub carried-room : (protocol : ℕ) (t : List ℕ) (h : TransportHeader) → readTransport protocol t ≡ Carried h → sumPlace protocol + 1 < length t

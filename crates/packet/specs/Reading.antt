@@ -1,17 +1,19 @@
--- What reading a packet finds (RFC 791, 9293, 768), and which of refusals 6 to 9 it meets (SCOPE 4.6 to 4.9). Assumes nothing: these are definitions.
-use Prim.Native.Nat.{ℕ, _*_, _/_, _%_, _≤_}
+-- What reading a packet finds (RFC 791, 9293, 768), and which of refusals 6 to 9 it meets. Assumes nothing: these are definitions.
+use Prim.Native.Nat.{ℕ, _-_, _*_, _/_, _%_, _≤_}
 use mathlib.Core.Path.{_≡_}
 use mathlib.Core.List.{List, [], _∷_}
 use mathlib.Core.Bool.{Bool, true, false, cond, not, _||_}
-use lib.ListN.{length, getD}
+use lib.ListN.{length, getD, take, drop}
 use lib.Dec.{ltb, eqb}
 use Rattle.checksum.specs.Ones.{wordAt, wordsOf, verifies}
-use Rattle.packet.specs.Bytes.{addressAt, headerLength, totalLength, header, payload}
+use Rattle.packet.specs.Bytes.{addressAt, headerLength, totalLength, header}
 use Rattle.packet.specs.declared.read.Flags.{Flags}
 use Rattle.packet.specs.declared.read.TransportHeader.{TransportHeader}
 use Rattle.packet.specs.declared.read.Transport.{Transport}
 use Rattle.packet.specs.declared.read.Transport.the-variants.{Malformed, Carried}
 use Rattle.packet.specs.declared.read.Fault.{Fault}
+use Rattle.packet.specs.declared.read.Header.{Header}
+use Rattle.packet.specs.declared.read.HeaderReading.{HeaderReading}
 use Rattle.packet.specs.declared.read.Packet.{Packet}
 use Rattle.packet.specs.declared.read.Reading.{Reading}
 use Rattle.packet.specs.declared.read.Reading.the-variants.{Refused, Taken}
@@ -60,7 +62,18 @@ pub record Whole (p : List ℕ) : Type 0 where
 unfoldable pub fragment : List ℕ → Bool
 fragment p = eqb (wordAt p 6 / 8192 % 2) 1 || not (eqb (wordAt p 6 % 8192) 0)
 
--- SCOPE 4.9 for TCP: payload under 20 bytes, data offset under 5 words or past the payload
+-- a packet's lengths, addresses and protocol
+abbrev pub headerOf : List ℕ → Header
+headerOf p =
+    record { length = headerLength p; total = totalLength p; source = addressAt p 12; destination = addressAt p 16; protocol = getD p 9 0 }
+
+-- the first of refusals 6 and 7 that applies, in that order; else the header, whatever it carries
+abbrev pub readHeader : List ℕ → HeaderReading
+readHeader p =
+    cond (broken p) (HeaderReading.Refused Fault.MalformedHeader)
+    (cond (fragment p) (HeaderReading.Refused Fault.Fragment) (HeaderReading.Read (headerOf p)))
+
+-- 9 for TCP: payload under 20 bytes, data offset under 5 words or past the payload
 abbrev pub tcpTests : List ℕ → List Bool
 tcpTests t = ltb (length t) 20 ∷ ltb (getD t 12 0 / 16) 5 ∷ ltb (length t) (getD t 12 0 / 16 * 4) ∷ []
 
@@ -98,24 +111,24 @@ readUdp t = cond (udpMalformed t) Malformed (Carried (portsOf t noFlags))
 abbrev pub readTransport : ℕ → List ℕ → Transport
 readTransport protocol t = cond (eqb protocol 6) (readTcp t) (readUdp t)
 
--- a packet's lengths and addresses, with the transport header that was read
-abbrev pub described : List ℕ → TransportHeader → Packet
-described p t =
-    record { header = headerLength p; total = totalLength p; source = addressAt p 12; destination = addressAt p 16; transport = t }
+-- a header's lengths and addresses, with the transport header that was read
+abbrev pub packetOf : Header → TransportHeader → Packet
+packetOf h t = record { header = h .length; total = h .total; source = h .source; destination = h .destination; transport = t }
 
 -- refusal 9 for a malformed transport part, else the packet
-abbrev pub withTransport : List ℕ → Transport → Reading
-withTransport p Malformed = Refused Fault.MalformedTransport
-withTransport p (Carried t) = Taken (described p t)
+abbrev pub withTransport : Header → Transport → Reading
+withTransport h Malformed = Refused Fault.MalformedTransport
+withTransport h (Carried t) = Taken (packetOf h t)
 
--- the packet with what reading its transport part finds
-abbrev pub readPayload : ℕ → List ℕ → Reading
-readPayload protocol p = withTransport p (readTransport protocol (payload p))
+-- the packet with what reading its transport part finds, which stands from the header's length up to the total length
+abbrev pub readPayload : ℕ → Header → List ℕ → Reading
+readPayload protocol h p = withTransport h (readTransport protocol (take (h .total - h .length) (drop (h .length) p)))
+
+-- what follows a header: 8, then 9
+abbrev pub onHeader : ℕ → List ℕ → HeaderReading → Reading
+onHeader protocol p (HeaderReading.Refused why) = Refused why
+onHeader protocol p (HeaderReading.Read h) = cond (not (eqb (h .protocol) protocol)) (Refused Fault.OtherProtocol) (readPayload protocol h p)
 
 -- the first of refusals 6 to 9 that applies, in that order (SCOPE 5.1); else the packet
 unfoldable pub readPacket : ℕ → List ℕ → Reading
-readPacket protocol p =
-    cond (broken p) (Refused Fault.MalformedHeader)
-    (cond (fragment p) (Refused Fault.Fragment)
-    (cond (not (eqb (getD p 9 0) protocol)) (Refused Fault.OtherProtocol)
-    (readPayload protocol p)))
+readPacket protocol p = onHeader protocol p (readHeader p)

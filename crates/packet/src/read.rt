@@ -8,7 +8,7 @@ use checksum::word_at;
 ghost use mathlib.Core.Path.{_≡_};
 ghost use Prim.Native.Nat.{_≤_};
 ghost use lib.ListN.{length};
-ghost use Rattle.packet.specs.Reading.{faultNumber, broken, fragment, flagsOf, readTcp, readUdp, readTransport, readPayload, readPacket, Whole};
+ghost use Rattle.packet.specs.Reading.{faultNumber, broken, fragment, headerOf, readHeader, flagsOf, readTcp, readUdp, readTransport, readPayload, readPacket};
 
 // The flags of a TCP header that connections go by.
 pub struct Flags {
@@ -49,6 +49,21 @@ pub fn fault_number(fault: Fault) -> u8
         Fault::OtherProtocol => 8,
         Fault::MalformedTransport => 9,
     }
+}
+
+// An IPv4 header that was read: its own length and the packet's in bytes, its addresses, and what it carries.
+pub struct Header {
+    pub length: usize,
+    pub total: usize,
+    pub source: u32,
+    pub destination: u32,
+    pub protocol: u8,
+}
+
+// What reading a header finds.
+pub enum HeaderReading {
+    Refused(Fault),
+    Read(Header),
 }
 
 // A packet that was taken: its lengths in bytes, addresses, and what its transport header holds.
@@ -100,6 +115,33 @@ fn is_fragment(p: &[u8]) -> bool
         return true;
     }
     w % 8192 != 0
+}
+
+// The header's fields.
+fn header_of(p: &[u8]) -> Header
+    requires { ⌜ 20 ≤ length (now p) ⌝ }
+    ensures { λ r. ⌜ r ≡ headerOf (now (p .entry)) ⌝ }
+{
+    Header {
+        length: header_length(p),
+        total: length_at(p, 2),
+        source: address_at(p, 12),
+        destination: address_at(p, 16),
+        protocol: p[9],
+    }
+}
+
+// The header of `p`, whatever it carries, or the first of refusals 6 and 7 that applies.
+pub fn read_header(p: &[u8]) -> HeaderReading
+    ensures { λ r. ⌜ r ≡ readHeader (now (p .entry)) ⌝ }
+{
+    if is_broken(p) {
+        return HeaderReading::Refused(Fault::MalformedHeader);
+    }
+    if is_fragment(p) {
+        return HeaderReading::Refused(Fault::Fragment);
+    }
+    HeaderReading::Read(header_of(p))
 }
 
 // The flags in a TCP header's byte 13.
@@ -167,20 +209,20 @@ fn read_transport(protocol: u8, t: &[u8]) -> Transport
     }
 }
 
-// A packet that refusals 6 to 8 do not name, or refusal 9.
-fn read_payload(protocol: u8, p: &[u8]) -> Reading
-    requires { ⌜ Whole (now p) ⌝ }
-    ensures { λ r. ⌜ r ≡ readPayload protocol (now (p .entry)) ⌝ }
+// A packet that refusals 6 to 8 do not name, by its header, or refusal 9.
+fn read_payload(protocol: u8, header: Header, p: &[u8]) -> Reading
+    requires { ⌜ (header .length ≤ header .total) × (header .total ≤ length (now p)) ⌝ }
+    ensures { λ r. ⌜ r ≡ readPayload protocol header (now (p .entry)) ⌝ }
 {
-    let header = header_length(p);
-    let total = length_at(p, 2);
-    match read_transport(protocol, &p[header..total]) {
+    let start = header.length;
+    let end = header.total;
+    match read_transport(protocol, &p[start..end]) {
         Transport::Malformed => Reading::Refused(Fault::MalformedTransport),
         Transport::Carried(transport) => Reading::Taken(Packet {
-            header,
-            total,
-            source: address_at(p, 12),
-            destination: address_at(p, 16),
+            header: start,
+            total: end,
+            source: header.source,
+            destination: header.destination,
             transport,
         }),
     }
@@ -190,14 +232,13 @@ fn read_payload(protocol: u8, p: &[u8]) -> Reading
 pub fn read_packet(protocol: u8, p: &[u8]) -> Reading
     ensures { λ r. ⌜ r ≡ readPacket protocol (now (p .entry)) ⌝ }
 {
-    if is_broken(p) {
-        return Reading::Refused(Fault::MalformedHeader);
+    match read_header(p) {
+        HeaderReading::Refused(fault) => Reading::Refused(fault),
+        HeaderReading::Read(header) => {
+            if header.protocol != protocol {
+                return Reading::Refused(Fault::OtherProtocol);
+            }
+            read_payload(protocol, header, p)
+        }
     }
-    if is_fragment(p) {
-        return Reading::Refused(Fault::Fragment);
-    }
-    if p[9] != protocol {
-        return Reading::Refused(Fault::OtherProtocol);
-    }
-    read_payload(protocol, p)
 }

@@ -4,6 +4,7 @@ use director::state::Service;
 use scheduler::walk::Place;
 use scheduler::walk::Walk;
 use servers::Server;
+use servers::unused;
 
 // 192.0.2.10, the service's address; 10.1.0.5 and 10.1.0.6, its servers'; 10.0.0.1, where the clients are.
 pub const VIRTUAL: u32 = 0xC000020A;
@@ -26,12 +27,8 @@ fn replica(address: u32) -> Server {
 
 // Two servers of weight 1.
 pub fn replicas() -> [Server; 64] {
-    let mut servers = [Server {
-        address: 0,
-        port: 0,
-        weight: 0,
-        count: 0,
-    }; 64];
+    let none = unused();
+    let mut servers = [none; 64];
     servers[0] = replica(FIRST);
     servers[1] = replica(SECOND);
     servers

@@ -1,8 +1,10 @@
 pub mod Gcd
 pub mod Largest
-pub mod LeastConnection
+pub mod LeastLoaded
 pub mod Rings
+pub mod Walks
 pub mod RoundRobin
 pub mod WeightedRoundRobin
+pub mod Numbers
 pub mod Picks
 pub mod Ranges

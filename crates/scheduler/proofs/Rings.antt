@@ -10,7 +10,7 @@ use lib.Dec.{ltb, leb}
 use borrow.Author.Tests.{ltb-true, ltb-false, leb-true, leb-false}
 use Rattle.lists.proofs.Cases.{by-test, truth}
 use Rattle.scheduler.specs.Laws.{AfterLaw, levelAfter, FirstFound, RingLaw}
-use Rattle.scheduler.specs.Walk.{afterIn, nextOf, pickedAt, ringFrom}
+use Rattle.scheduler.specs.Ring.{afterIn, nextOf, pickedAt, ringFrom}
 use Rattle.scheduler.specs.declared.walk.Place.{Place}
 use Rattle.scheduler.specs.declared.walk.Picked.{Picked}
 

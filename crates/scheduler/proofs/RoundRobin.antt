@@ -1,8 +1,8 @@
 -- Round-robin picks the next number in the ring with weight above 0, and keeps the walk in its range. Assumes nothing.
-use mathlib.Core.Bool.{true, false, false≢true}
+use mathlib.Core.Bool.{true, false}
 use mathlib.Core.List.{List}
 use mathlib.Core.Path.{_≡_, _∙_, refl, ap}
-use Prim.Native.Nat.{ℕ, zero, suc, _+_, _%_, _<_}
+use Prim.Native.Nat.{ℕ, zero, suc, _+_, _-_, _%_, _<_}
 use native.Mathlib.Nat.{mod-lt}
 use native.Mathlib.Omega.{arith}
 use lib.Dec.{ltb, eqb}
@@ -10,12 +10,13 @@ use borrow.Author.Tests.{lt-ltb, ltb-true, ltb-false}
 use Rattle.lists.proofs.Cases.{both}
 use Rattle.servers.specs.Servers.{weightAt}
 use Rattle.servers.specs.declared.Server.{Server}
-use Rattle.scheduler.specs.Walk.{afterIn, nextOf, inRange, atServer}
-use Rattle.scheduler.specs.RoundRobin.{keepsLevel, weighs, roundRobinOf}
-use Rattle.scheduler.specs.Laws.{EachZero, levelAfter, FirstFound, NextFound, NextLaw, PickFound}
+use Rattle.scheduler.specs.Walk.{atServer}
+use Rattle.scheduler.specs.Ring.{afterIn, nextOf}
+use Rattle.scheduler.specs.RoundRobin.{keepsLevel, weighs, roundRobin}
+use Rattle.scheduler.specs.Laws.{EachZero, levelAfter, FirstFound, NextFound, NextLaw, Ranged, FoundBy, Picking}
 use Rattle.scheduler.specs.declared.walk.Place.{Place}
-use Rattle.scheduler.specs.declared.walk.Walk.{Walk}
 use Rattle.scheduler.specs.declared.walk.Picked.{Picked}
+use Rattle.scheduler.proofs.Walks.{at-some, rests-within}
 use Rattle.scheduler.proofs.Rings.{after-below, next-below, step-more, distance, ring-first}
 
 -- the level stays as it was
@@ -23,11 +24,6 @@ level-same : (n e i cw : ℕ) → levelAfter keepsLevel n e i cw ≡ cw
 unfolding levelAfter
 level-same n zero i cw = refl
 level-same n (suc e) i cw = level-same n e (afterIn n i) cw
-
--- there is a server where the walk is at one
-at-some : (n : ℕ) (p : Place) → atServer n p ≡ true → 0 < n
-at-some n Place.Start h = absurd (false≢true h)
-at-some n (Place.At i) h = omega (arith, ltb-true (i .0) n h)
 
 module _ (s : List Server) (n : ℕ) where
   -- where none of the n numbers from i on weighs, no server does
@@ -58,7 +54,7 @@ module _ (s : List Server) (n : ℕ) where
           )
   next-after i cw Picked.Nobody h f = each-zero (afterIn n i) (after-below n i (omega arith)) f
 
-  moved-found : (i cw : ℕ) (p : Picked) → i < n → eqb cw 0 ≡ true → FirstFound keepsLevel (weighs s) n n i cw p → PickFound 1 s n p
+  moved-found : (i cw : ℕ) (p : Picked) → i < n → eqb cw 0 ≡ true → FirstFound keepsLevel (weighs s) n n i cw p → FoundBy roundRobin s n p
   moved-found i cw (Picked.Server r v) h z f =
       let below : r .0 < n = rw (f .number) (mod-lt _ (omega arith)) in
       (below, ltb-true 0 (weightAt s (r .0)) (f .taken), simp (f .moved, level-same n (f .steps) i cw, z, lt-ltb (r .0) n below))
@@ -66,12 +62,20 @@ module _ (s : List Server) (n : ℕ) where
 
 pub round-robin-next : NextLaw
 round-robin-next s n i cw h =
-    next-after s n (i .0) cw (roundRobinOf s n (record { place = Place.At i; level = cw })) h
+    next-after s n (i .0) cw (roundRobin .pick s n (record { place = Place.At i; level = cw })) h
     (ring-first keepsLevel (weighs s) n n (afterIn n (i .0)) cw (after-below n (i .0) (omega arith)))
 
-pub round-robin-found : (s : List Server) (n : ℕ) (w : Walk) → inRange 1 s n w ≡ true → PickFound 1 s n (roundRobinOf s n w)
-round-robin-found s n w r =
+pub round-robin-picking : Picking roundRobin
+round-robin-picking s n w r =
     let (z, at) = both (eqb (w .level) 0) (atServer n (w .place)) r in
     let h = next-below n (w .place) (at-some n (w .place) at) in
-    moved-found s n (nextOf n (w .place)) (w .level) (roundRobinOf s n w) h z
+    moved-found s n (nextOf n (w .place)) (w .level) (roundRobin .pick s n w) h z
     (ring-first keepsLevel (weighs s) n n (nextOf n (w .place)) (w .level) h)
+
+pub round-robin-ranged : Ranged roundRobin
+round-robin-ranged = record {
+  started = λ s n h. lt-ltb (n - 1) n (omega arith);
+  weighed = λ s n i x w h. h;
+  counted = λ s n i x w. refl;
+  placed = λ s n w h. rests-within n w;
+}

@@ -5,19 +5,20 @@ use mathlib.Core.Path.{_≡_, ap}
 use Prim.Native.Nat.{ℕ, zero, suc, _+_, _-_, _%_, _≤_, _<_}
 use native.Mathlib.Nat.{le-refl, mod-lt}
 use native.Mathlib.Omega.{arith}
-use lib.Dec.{ltb, leb, eqb}
-use borrow.Author.Tests.{lt-ltb, ltb-true, le-leb, leb-true, leb-false, ne-eqb, eqb-false, not-true}
+use lib.Dec.{ltb, leb, eqb, leb·zero}
+use lib.Seq.{set-getD}
+use borrow.Author.Tests.{lt-ltb, ltb-true, le-leb, leb-true, leb-false, ne-eqb, eqb-true, eqb-false, not-true}
 use Rattle.lists.proofs.Cases.{by-test, both}
-use Rattle.servers.specs.Servers.{weightAt}
+use Rattle.servers.specs.Servers.{unused, weightAt, withWeight}
 use Rattle.servers.specs.declared.Server.{Server}
 use Rattle.scheduler.specs.Weights.{weightsGcd, largestOf, noWeight}
-use Rattle.scheduler.specs.Walk.{afterIn, nextOf, ringOf, inRange, levelPlace}
-use Rattle.scheduler.specs.WeightedRoundRobin.{levelAt, reaches, weightedOf}
-use Rattle.scheduler.specs.Laws.{levelAfter, FirstFound, PickFound}
+use Rattle.scheduler.specs.Ring.{afterIn, nextOf, ringOf}
+use Rattle.scheduler.specs.WeightedRoundRobin.{inLevels, levelPlace, levelAt, reaches, weightedRoundRobin}
+use Rattle.scheduler.specs.Laws.{levelAfter, FirstFound, Within, Ranged, FoundBy, Picking}
 use Rattle.scheduler.specs.declared.walk.Place.{Place}
 use Rattle.scheduler.specs.declared.walk.Walk.{Walk}
 use Rattle.scheduler.specs.declared.walk.Picked.{Picked}
-use Rattle.scheduler.proofs.Largest.{largest-met, no-weight, some-weight}
+use Rattle.scheduler.proofs.Largest.{largest-met, no-weight, some-weight, same-largest}
 use Rattle.scheduler.proofs.Rings.{next-below, distance, ring-first}
 
 -- the level of scheduler 2, with the divisor g and the largest weight m
@@ -48,7 +49,7 @@ module _ (g m : ℕ) (pm : 0 < m) where
   level-start n cw (Place.At i) h =
       level-above (nextOf n (Place.At i)) cw (omega (arith, eqb-false cw 0 (not-true (eqb cw 0) (both (not (eqb cw 0)) (ltb (i .0) n) h .0))))
 
-module _ (s : List Server) (n : ℕ) (w : Walk) (range : inRange 2 s n w ≡ true) where
+module _ (s : List Server) (n : ℕ) (w : Walk) (range : weightedRoundRobin .inRange s n w ≡ true) where
   abbrev first : ℕ
   first = nextOf n (w .place)
 
@@ -66,7 +67,7 @@ module _ (s : List Server) (n : ℕ) (w : Walk) (range : inRange 2 s n w ≡ tru
         level-kept g m pm n e first (w .level)
         (level-start g m pm n (w .level) (w .place) (r .1)) (level-most g m pm first (w .level) (leb-true (w .level) m (r .0)))
 
-    moved-found : (x : Picked) → first < n → FirstFound (levelAt g m) (reaches s) n n first (w .level) x → PickFound 2 s n x
+    moved-found : (x : Picked) → first < n → FirstFound (levelAt g m) (reaches s) n n first (w .level) x → FoundBy weightedRoundRobin s n x
     moved-found (Picked.Server r v) h f =
         let k = level-found (f .steps) in
         let below : r .0 < n = rw (f .number) (mod-lt _ (omega arith)) in
@@ -87,11 +88,33 @@ module _ (s : List Server) (n : ℕ) (w : Walk) (range : inRange 2 s n w ≡ tru
           top .2,
         ))
 
-  pub weighted-found : PickFound 2 s n (weightedOf s n (weightsGcd s n) (largestOf s n) w)
+  weighted-found : FoundBy weightedRoundRobin s n (weightedRoundRobin .pick s n w)
   weighted-found =
-      by-test (PickFound 2 s n) (noWeight s n) _ _ (no-weight s n .0)
+      by-test (FoundBy weightedRoundRobin s n) (noWeight s n) _ _ (no-weight s n .0)
       (λ e.
       let pm = some-weight s n e in
       let h = next-below n (w .place) (omega (arith, largest-met s n pm .1)) in
       moved-found pm (ringOf (levelAt (weightsGcd s n) (largestOf s n)) (reaches s) n w) h
       (ring-first (levelAt (weightsGcd s n) (largestOf s n)) (reaches s) n n first (w .level) h))
+
+pub weighted-picking : Picking weightedRoundRobin
+weighted-picking = weighted-found
+
+-- an equal weight changes nothing
+same-weight : (s : List Server) (i x : ℕ) → weightAt s i ≡ x → withWeight s i x ≡ s
+same-weight s i x e = rw (← e) (set-getD s i unused)
+
+level-within : (n cw : ℕ) (p : Place) → levelPlace n cw p ≡ true → Within n p
+level-within n cw Place.Start h = tt
+level-within n cw (Place.At i) h = ltb-true (i .0) n (both (not (eqb cw 0)) (ltb (i .0) n) h .1)
+
+pub weighted-ranged : Ranged weightedRoundRobin
+weighted-ranged = record {
+  started = λ s n h. simp leb·zero;
+  weighed = λ s n i x w h.
+      by-test (λ v. weightedRoundRobin .inRange (withWeight s i x) n v ≡ true) (eqb (weightAt s i) x) _ _
+      (λ e. rw (same-weight s i x (eqb-true (weightAt s i) x e)) h)
+      (λ e. simp leb·zero);
+  counted = λ s n i x w. ap (λ (m : ℕ). inLevels n m w) (same-largest s n i x);
+  placed = λ s n w h r. level-within n (w .level) (w .place) (both (leb (w .level) (largestOf s n)) (levelPlace n (w .level) (w .place)) r .1);
+}

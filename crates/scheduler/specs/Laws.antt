@@ -7,12 +7,13 @@ use Rattle.servers.specs.Servers.{serverAt, weightAt, withWeight, withCount}
 use Rattle.servers.specs.declared.Server.{Server}
 use Rattle.servers.specs.declared.ServerNo.{ServerNo}
 use Rattle.scheduler.specs.Weights.{weightsGcd, largestOf, noWeight}
-use Rattle.scheduler.specs.Walk.{afterIn, ringFrom, startOf, afterWeight, inRange}
-use Rattle.scheduler.specs.RoundRobin.{roundRobinOf}
-use Rattle.scheduler.specs.LeastConnection.{lighterBy, leastOf}
-use Rattle.scheduler.specs.Pick.{pickOf}
+use Rattle.scheduler.specs.Ring.{afterIn, ringFrom}
+use Rattle.scheduler.specs.Scheduler.{Scheduler}
+use Rattle.scheduler.specs.RoundRobin.{roundRobin}
+use Rattle.scheduler.specs.LeastLoaded.{lighterBy, leastOf}
+use Rattle.scheduler.specs.ByNumber.{isScheduler, schedulerOf, startOf, inRange, afterWeight, pickOf}
 use Rattle.servers.specs.declared.Found.{Found}
-use Rattle.scheduler.specs.declared.least_connection.Load.{Load}
+use Rattle.scheduler.specs.declared.least_loaded.Load.{Load}
 use Rattle.scheduler.specs.declared.walk.Place.{Place}
 use Rattle.scheduler.specs.declared.walk.Walk.{Walk}
 use Rattle.scheduler.specs.declared.walk.Picked.{Picked}
@@ -108,19 +109,42 @@ NextFound s n i Picked.Nobody = EachZero s n
 abbrev pub NextLaw : Type 0
 NextLaw =
     (s : List Server) (n : ℕ) (i : ServerNo) (cw : ℕ) → i .0 < n
-    → NextFound s n (i .0) (roundRobinOf s n (record { place = Place.At i; level = cw }))
+    → NextFound s n (i .0) (roundRobin .pick s n (record { place = Place.At i; level = cw }))
 
--- 4. The pick
+-- 4. Each scheduler
 
--- an existing server whose weight is above 0, and a walk in the range of scheduler k; nobody only where each weight is 0
+-- a place that is -1 or one of the first n servers
+abbrev pub Within : ℕ → Place → Type 0
+Within n Place.Start = Unit {0}
+Within n (Place.At i) = i .0 < n
+
+-- the walk of scheduler c is in its range at its start; if it was, after server i's weight is set to x; and a count set to x
+-- changes nothing about it; in its range it is at no other place than -1 and the n servers
+pub record Ranged (c : Scheduler) : Type 0 where
+  pub started : (s : List Server) (n : ℕ) → 0 < n → c .inRange s n (c .start n) ≡ true
+  pub weighed : (s : List Server) (n i x : ℕ) (w : Walk) → c .inRange s n w ≡ true
+      → c .inRange (withWeight s i x) n (c .afterWeight w (weightAt s i) x) ≡ true
+  pub counted : (s : List Server) (n i x : ℕ) (w : Walk) → c .inRange (withCount s i x) n w ≡ c .inRange s n w
+  pub placed : (s : List Server) (n : ℕ) (w : Walk) → 0 < n → c .inRange s n w ≡ true → Within n (w .place)
+
+-- an existing server whose weight is above 0, and a walk in the range of scheduler c; nobody only where each weight is 0
+abbrev pub FoundBy : Scheduler → List Server → ℕ → Picked → Type 0
+FoundBy c s n (Picked.Server r w) = (r .0 < n) × (0 < weightAt s (r .0)) × (c .inRange s n w ≡ true)
+FoundBy c s n Picked.Nobody = EachZero s n
+
+-- with the walk in its range: so within the n numbers of the ring somebody is met, and the walk stays in range
+abbrev pub Picking : Scheduler → Type 0
+Picking c = (s : List Server) (n : ℕ) (w : Walk) → c .inRange s n w ≡ true → FoundBy c s n (c .pick s n w)
+
+-- 5. The pick
+
 abbrev pub PickFound : ℕ → List Server → ℕ → Picked → Type 0
-PickFound k s n (Picked.Server r w) = (r .0 < n) × (0 < weightAt s (r .0)) × (inRange k s n w ≡ true)
-PickFound k s n Picked.Nobody = EachZero s n
+PickFound k s n p = FoundBy (schedulerOf k) s n p
 
--- schedulers 1 to 4 with the walk in its range: so within the n numbers of the ring somebody is met, and the walk stays in range
+-- every scheduler, with the walk in its range
 abbrev pub PickLaw : Type 0
 PickLaw =
-    (k : ℕ) (s : List Server) (n : ℕ) (w : Walk) → 0 < k → k ≤ 4
+    (k : ℕ) (s : List Server) (n : ℕ) (w : Walk) → isScheduler k ≡ true
     → inRange k s n w ≡ true → PickFound k s n (pickOf k s n w)
 
 abbrev pub isNobody : Picked → Bool
@@ -130,10 +154,10 @@ isNobody Picked.Nobody = true
 -- with the walk in its range, nobody is picked exactly where every weight is 0 (refusal 14)
 abbrev pub NobodyLaw : Type 0
 NobodyLaw =
-    (k : ℕ) (s : List Server) (n : ℕ) (w : Walk) → 0 < k → k ≤ 4
+    (k : ℕ) (s : List Server) (n : ℕ) (w : Walk) → isScheduler k ≡ true
     → inRange k s n w ≡ true → isNobody (pickOf k s n w) ≡ noWeight s n
 
--- 5. The walk's range
+-- 6. The walk's range
 
 -- the walk is in its range at its start
 abbrev pub StartLaw : Type 0
@@ -150,3 +174,7 @@ abbrev pub CountLaw : Type 0
 CountLaw =
     (s : List Server) (n i c : ℕ)
     → (noWeight (withCount s i c) n ≡ noWeight s n) × ((k : ℕ) (w : Walk) → inRange k (withCount s i c) n w ≡ inRange k s n w)
+
+-- a walk in its range is at -1 or at one of the n servers
+abbrev pub PlaceLaw : Type 0
+PlaceLaw = (k : ℕ) (s : List Server) (n : ℕ) (w : Walk) → 0 < n → inRange k s n w ≡ true → Within n (w .place)

@@ -1,7 +1,11 @@
 pub mod Weights
 pub mod Walk
+pub mod Ring
+pub mod Scheduler
 pub mod RoundRobin
 pub mod WeightedRoundRobin
+pub mod LeastLoaded
 pub mod LeastConnection
-pub mod Pick
+pub mod WeightedLeastConnection
+pub mod ByNumber
 pub mod Laws

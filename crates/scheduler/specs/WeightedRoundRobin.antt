@@ -1,13 +1,29 @@
 -- Scheduler 2, weighted round-robin. Assumes nothing: these are definitions.
-use mathlib.Core.Bool.{Bool, cond}
+use mathlib.Core.Bool.{Bool, true, cond, not, _&&_}
 use mathlib.Core.List.{List}
 use Prim.Native.Nat.{ℕ, _-_}
 use lib.Dec.{ltb, leb, eqb}
 use Rattle.servers.specs.Servers.{weightAt}
 use Rattle.servers.specs.declared.Server.{Server}
-use Rattle.scheduler.specs.Walk.{ringOf}
+use Rattle.scheduler.specs.Ring.{ringOf}
+use Rattle.scheduler.specs.Scheduler.{Scheduler}
+use Rattle.scheduler.specs.Weights.{weightsGcd, largestOf}
+use Rattle.scheduler.specs.declared.walk.Place.{Place}
 use Rattle.scheduler.specs.declared.walk.Walk.{Walk}
 use Rattle.scheduler.specs.declared.walk.Picked.{Picked}
+
+-- "place i starts at −1, level cw at 0" (SCOPE 10.5)
+abbrev pub startWalk : Walk
+startWalk = record { place = Place.Start; level = 0 }
+
+-- "i −1..n−1, .. cw 0 only with i = −1" (SCOPE 10.6)
+abbrev pub levelPlace : ℕ → ℕ → Place → Bool
+levelPlace n cw Place.Start = true
+levelPlace n cw (Place.At i) = not (eqb cw 0) && ltb (i .0) n
+
+-- the range, with the largest weight m: "cw 0 to the largest weight" (SCOPE 10.6)
+abbrev pub inLevels : ℕ → ℕ → Walk → Bool
+inLevels n m w = leb (w .level) m && levelPlace n (w .level) (w .place)
 
 -- the level at the number i: "if i is 0, cw drops by the greatest common divisor of all weights" (SCOPE 10.5), g, "and if not above 0
 -- becomes the largest weight" (SCOPE 10.5), m
@@ -19,5 +35,14 @@ abbrev pub reaches : List Server → ℕ → ℕ → Bool
 reaches s i cw = leb cw (weightAt s i)
 
 -- "the first server with weight at least cw is picked" (SCOPE 10.5); nobody where the largest weight is 0
-abbrev pub weightedOf : List Server → ℕ → ℕ → ℕ → Walk → Picked
-weightedOf s n g m w = cond (eqb m 0) Picked.Nobody (ringOf (levelAt g m) (reaches s) n w)
+abbrev pub pickWith : List Server → ℕ → ℕ → ℕ → Walk → Picked
+pickWith s n g m w = cond (eqb m 0) Picked.Nobody (ringOf (levelAt g m) (reaches s) n w)
+
+abbrev pub weightedRoundRobin : Scheduler
+weightedRoundRobin = record {
+  start = λ n. startWalk;
+  inRange = λ s n w. inLevels n (largestOf s n) w;
+  -- "a weight set to a different number restarts this walk; an equal one changes nothing" (SCOPE 10.7)
+  afterWeight = λ w old new. cond (eqb old new) w startWalk;
+  pick = λ s n w. pickWith s n (weightsGcd s n) (largestOf s n) w;
+}

@@ -1,77 +1,38 @@
-// Least-connection (scheduler 3) and weighted least-connection (scheduler 4). Of the servers with a weight above 0 the one
-// with the smallest count is picked, or with the smallest count / weight; of equals, the one with the lowest number.
-// Quotients are compared by cross products: a.count / a.weight < b.count / b.weight where
-// a.count * b.weight < b.count * a.weight. The walk stays where it is.
+// Least-connection (scheduler 3). Of the servers with a weight above 0 the one with the smallest count is picked.
+use crate::least_loaded::Load;
+use crate::least_loaded::pick_least;
 use crate::walk::Picked;
 use crate::walk::Walk;
-use servers::Found;
+use crate::walk::held_walk;
+use crate::walk::is_held;
 use servers::Server;
-use servers::ServerNo;
-use servers::server_at;
 ghost use mathlib.Core.Path.{_≡_};
-ghost use Rattle.scheduler.specs.LeastConnection.{loadBeside, lighterBy, betterOf, leastOf, leastConnectionOf};
+ghost use Rattle.scheduler.specs.LeastConnection.{leastConnection};
 
-// What is compared: counts (scheduler 3), or counts per weight (scheduler 4).
-pub enum Load {
-    Count,
-    PerWeight,
+// The walk's start: it is held.
+pub fn start(n: u32) -> Walk
+    ensures { λ r. ⌜ r ≡ leastConnection .start n ⌝ }
+{
+    held_walk()
 }
 
-// The load of a beside b: its count, or its side of the cross product.
-fn load_beside(by: Load, a: Server, b: Server) -> u64
-    ensures { λ r. ⌜ r ≡ loadBeside by a b ⌝ }
+// Whether a walk is in its range.
+pub fn in_range(servers: [Server; 64], n: u32, walk: Walk) -> bool
+    ensures { λ r. ⌜ r ≡ leastConnection .inRange servers n walk ⌝ }
 {
-    match by {
-        Load::Count => a.count as u64,
-        Load::PerWeight => (a.count as u64) * (b.weight as u64),
-    }
+    is_held(walk)
 }
 
-// Whether a carries less than b.
-fn lighter(by: Load, a: Server, b: Server) -> bool
-    ensures { λ r. ⌜ r ≡ lighterBy by a b ⌝ }
+// The walk after a weight was set from old to new: as it was.
+pub fn after_weight(walk: Walk, old: u16, new: u16) -> Walk
+    ensures { λ r. ⌜ r ≡ leastConnection .afterWeight walk old new ⌝ }
 {
-    load_beside(by, a, b) < load_beside(by, b, a)
+    walk
 }
 
-// The better of the best so far and one server more, whose number is higher.
-fn better(by: Load, servers: [Server; 64], best: Found, no: ServerNo) -> Found
-    ensures { λ r. ⌜ r ≡ betterOf by servers best (no .0) ⌝ }
+// The pick among the first n servers.
+pub fn pick(servers: [Server; 64], n: u32, walk: Walk) -> Picked
+    ensures { λ r. ⌜ r ≡ leastConnection .pick servers n walk ⌝ }
 {
-    let server = server_at(servers, no);
-    if server.weight == 0 {
-        return best;
-    }
-    match best {
-        Found::Nobody => Found::At(no),
-        Found::At(b) => {
-            if lighter(by, server, server_at(servers, b)) {
-                Found::At(no)
-            } else {
-                best
-            }
-        }
-    }
-}
-
-// The least loaded of the first n servers, of those whose weight is above 0.
-pub fn least(by: Load, servers: [Server; 64], n: u32) -> Found
-    ensures { λ r. ⌜ r ≡ leastOf by servers n ⌝ }
-{
-    let mut best = Found::Nobody;
-    for i in 0..n {
-        best = better(by, servers, best, ServerNo(i));
-    }
-    best
-}
-
-// The pick of least-connection among the first n servers.
-pub fn least_connection(by: Load, servers: [Server; 64], n: u32, walk: Walk) -> Picked
-    ensures { λ r. ⌜ r ≡ leastConnectionOf by servers n walk ⌝ }
-{
-    let found = least(by, servers, n);
-    match found {
-        Found::At(no) => Picked::Server(no, walk),
-        Found::Nobody => Picked::Nobody,
-    }
+    pick_least(Load::Count, servers, n, walk)
 }

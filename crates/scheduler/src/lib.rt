@@ -1,21 +1,67 @@
-// Picks a server for a new connection, by one of four schedulers (SCOPE section 10). One file for each scheduler.
+// Picks a server for a new connection, by one of the four published schedulers (SCOPE 1.4). A scheduler is one file: where its walk
+// starts, the walk's range, what a weight change makes of it, and the pick. Here a scheduler's number says which it is.
 pub mod least_connection;
+pub mod least_loaded;
+pub mod ring;
 pub mod round_robin;
 pub mod walk;
+pub mod weighted_least_connection;
 pub mod weighted_round_robin;
 pub mod weights;
 
-use least_connection::Load;
-use least_connection::least_connection;
-use round_robin::round_robin;
 use servers::Server;
 use walk::Picked;
 use walk::Walk;
-use weighted_round_robin::weighted_round_robin;
-use weights::largest;
-use weights::weights_gcd;
+use walk::held_walk;
+use walk::is_held;
 ghost use mathlib.Core.Path.{_≡_};
-ghost use Rattle.scheduler.specs.Pick.{pickOf};
+ghost use Rattle.scheduler.specs.ByNumber.{isScheduler, startOf, inRange, afterWeight, pickOf};
+
+// Whether a number is a scheduler's.
+pub fn is_scheduler(scheduler: u8) -> bool
+    ensures { λ r. ⌜ r ≡ isScheduler scheduler ⌝ }
+{
+    (1 <= scheduler) & (scheduler <= 4)
+}
+
+// The walk at its scheduler's start.
+pub fn start(scheduler: u8, n: u32) -> Walk
+    ensures { λ r. ⌜ r ≡ startOf scheduler n ⌝ }
+{
+    match scheduler {
+        1 => round_robin::start(n),
+        2 => weighted_round_robin::start(n),
+        3 => least_connection::start(n),
+        4 => weighted_least_connection::start(n),
+        _ => held_walk(),
+    }
+}
+
+// Whether a walk is in its scheduler's range.
+pub fn in_range(scheduler: u8, servers: [Server; 64], n: u32, walk: Walk) -> bool
+    ensures { λ r. ⌜ r ≡ inRange scheduler servers n walk ⌝ }
+{
+    match scheduler {
+        1 => round_robin::in_range(servers, n, walk),
+        2 => weighted_round_robin::in_range(servers, n, walk),
+        3 => least_connection::in_range(servers, n, walk),
+        4 => weighted_least_connection::in_range(servers, n, walk),
+        _ => is_held(walk),
+    }
+}
+
+// The walk after a weight was set from old to new.
+pub fn after_weight(scheduler: u8, walk: Walk, old: u16, new: u16) -> Walk
+    ensures { λ r. ⌜ r ≡ afterWeight scheduler walk old new ⌝ }
+{
+    match scheduler {
+        1 => round_robin::after_weight(walk, old, new),
+        2 => weighted_round_robin::after_weight(walk, old, new),
+        3 => least_connection::after_weight(walk, old, new),
+        4 => weighted_least_connection::after_weight(walk, old, new),
+        _ => walk,
+    }
+}
 
 // Picks one of the first n servers by scheduler 1 to 4, with the walk after it. With the walk in its range, nobody is
 // picked exactly where every weight is 0.
@@ -23,16 +69,10 @@ pub fn pick(scheduler: u8, servers: [Server; 64], n: u32, walk: Walk) -> Picked
     ensures { λ r. ⌜ r ≡ pickOf scheduler servers n walk ⌝ }
 {
     match scheduler {
-        1 => round_robin(servers, n, walk),
-        2 => weighted_round_robin(
-            servers,
-            n,
-            weights_gcd(servers, n),
-            largest(servers, n),
-            walk,
-        ),
-        3 => least_connection(Load::Count, servers, n, walk),
-        4 => least_connection(Load::PerWeight, servers, n, walk),
+        1 => round_robin::pick(servers, n, walk),
+        2 => weighted_round_robin::pick(servers, n, walk),
+        3 => least_connection::pick(servers, n, walk),
+        4 => weighted_least_connection::pick(servers, n, walk),
         _ => Picked::Nobody,
     }
 }

@@ -1,18 +1,45 @@
 // Round-robin (scheduler 1). The walk's place is the last pick; the next number in the ring with a weight above 0 is
 // picked. A weight of 0 takes a server out of service. Each number is tried once: where all n are out, nobody is picked.
+use crate::ring::after;
+use crate::ring::last;
+use crate::ring::next;
+use crate::ring::picked_at;
 use crate::walk::Picked;
+use crate::walk::Place;
 use crate::walk::Walk;
-use crate::walk::after;
-use crate::walk::next;
-use crate::walk::picked_at;
+use crate::walk::rests_at;
 use servers::Server;
 use servers::weight_at;
 ghost use mathlib.Core.Path.{_≡_};
-ghost use Rattle.scheduler.specs.RoundRobin.{roundRobinOf};
+ghost use Rattle.scheduler.specs.RoundRobin.{roundRobin};
 
-// The pick of round-robin among the first n servers.
-pub fn round_robin(servers: [Server; 64], n: u32, walk: Walk) -> Picked
-    ensures { λ r. ⌜ r ≡ roundRobinOf servers n walk ⌝ }
+// The walk's start: at the last server, so that the first is next.
+pub fn start(n: u32) -> Walk
+    ensures { λ r. ⌜ r ≡ roundRobin .start n ⌝ }
+{
+    Walk {
+        place: Place::At(last(n)),
+        level: 0,
+    }
+}
+
+// Whether a walk is in its range.
+pub fn in_range(servers: [Server; 64], n: u32, walk: Walk) -> bool
+    ensures { λ r. ⌜ r ≡ roundRobin .inRange servers n walk ⌝ }
+{
+    rests_at(walk, n)
+}
+
+// The walk after a weight was set from old to new: as it was.
+pub fn after_weight(walk: Walk, old: u16, new: u16) -> Walk
+    ensures { λ r. ⌜ r ≡ roundRobin .afterWeight walk old new ⌝ }
+{
+    walk
+}
+
+// The pick among the first n servers.
+pub fn pick(servers: [Server; 64], n: u32, walk: Walk) -> Picked
+    ensures { λ r. ⌜ r ≡ roundRobin .pick servers n walk ⌝ }
 {
     let place = walk.place;
     let level = walk.level;

@@ -1,0 +1,40 @@
+-- `after_weight` meets its contract: each arm rewrites with the number that led there and what its call ensures.
+-- Assumes nothing.
+use mathlib.Core.Path.{ap}
+use borrow.Author.Needs.{needs}
+use Rattle.scheduler.specs.Scheduler.{Scheduler}
+use Rattle.scheduler.proofs.Numbers.{other-number}
+use Rattle.scheduler.proofs.after_weight.Statement.{statement}
+use Rattle.scheduler.proofs.after_weight.Tie as tie
+
+returns : tie.Need-returns
+returns c = simp (c .before .match .keys1, c .after-weight .ensures)
+
+returns-2 : tie.Need-returns-2
+returns-2 c = simp (c .before .match .keys2, c .after-weight2 .ensures)
+
+returns-3 : tie.Need-returns-3
+returns-3 c = simp (c .before .match .keys3, c .after-weight3 .ensures)
+
+returns-4 : tie.Need-returns-4
+returns-4 c = simp (c .before .match .keys4, c .after-weight4 .ensures)
+
+returns-5 : tie.Need-returns-5
+returns-5 c =
+    let a = c .before .args in
+    let k = c .match .rest in
+    ap (λ (s : Scheduler). s .afterWeight (a .walk) (a .old) (a .new)) (other-number (a .scheduler) (k .0 .0 .0 .1) (k .0 .0 .1) (k .0 .1) (k .1))
+
+pub after-weight-spec : {M : Type 1} → statement M
+after-weight-spec =
+    tie.close
+    (tie.spec
+    (λ c κs. search needs)
+    (λ c κs. search needs)
+    (λ c κs. search needs)
+    (λ c κs. search needs)
+    returns
+    returns-2
+    returns-3
+    returns-4
+    returns-5)

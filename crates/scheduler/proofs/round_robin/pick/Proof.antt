@@ -1,0 +1,56 @@
+-- `round_robin::pick` meets its contract. The loop's invariant: the walk from here on, with what is left of the
+-- ring, picks what the whole walk picks. The measure is what is left.
+-- Assumes nothing.
+use mathlib.Core.Path.{refl}
+use native.Mathlib.Omega.{arith}
+use borrow.Author.Needs.{needs}
+use borrow.Author.Tests.{lt-ltb, le-ltb}
+use Rattle.servers.specs.Servers.{weightAt}
+use Rattle.scheduler.specs.Ring.{ringFrom}
+use Rattle.scheduler.specs.RoundRobin.{keepsLevel, weighs}
+use Rattle.scheduler.proofs.Rings.{Picks, ring-here, ring-end, ring-on}
+use Rattle.scheduler.proofs.round_robin.pick.Statement.{statement}
+use Rattle.scheduler.proofs.round_robin.pick.Tie as tie
+
+abbrev Inv-loop : tie.InvT-loop
+Inv-loop servers n level no₀ left₀ no' left =
+    Picks keepsLevel (weighs servers) n left (no' .0) level (ringFrom keepsLevel (weighs servers) n n (no₀ .0) level)
+
+abbrev μ-loop : tie.MeasureT-loop
+μ-loop servers n level no₀ left₀ no' left = left
+
+loop-holds : tie.Need-loop-holds Inv-loop μ-loop
+loop-holds c = record { whole = refl }
+
+returns : tie.Need-returns Inv-loop μ-loop
+returns c =
+    let l = c .before .before .before .before in
+    rw (c .picked-at .ensures, ← (l .before .next .ensures))
+    (ring-here (l .loop .inv) (omega arith) refl (lt-ltb 0 (weightAt (l .before .before .args .servers) (l .loop .no .0)) (omega arith)))
+
+loop-again : tie.Need-loop-again Inv-loop μ-loop
+loop-again c =
+    let l = c .before .before .before .before in
+    ring-on (l .loop .inv) (omega arith) refl (le-ltb 0 (weightAt (l .before .before .args .servers) (l .loop .no .0)) (omega arith)) (c .after .ensures)
+
+returns-2 : tie.Need-returns-2 Inv-loop μ-loop
+returns-2 c =
+    let l = c .before in
+    rw (← (l .before .next .ensures)) (ring-end (l .loop .inv) (omega arith))
+
+pub pick-spec : {M : Type 1} → statement M
+pick-spec =
+    tie.close
+    (tie.spec
+    Inv-loop
+    μ-loop
+    (λ c κs. search needs)
+    loop-holds
+    (λ c κs. search needs)
+    (λ c κs. search needs)
+    returns
+    (λ c κs. search needs)
+    (λ c. search needs)
+    (λ c. search needs)
+    loop-again
+    returns-2)

@@ -1,0 +1,45 @@
+-- The schedulers by their numbers. Assumes nothing: these are definitions.
+use mathlib.Core.Bool.{Bool, cond, _&&_}
+use mathlib.Core.List.{List}
+use Prim.Native.Nat.{ℕ}
+use lib.Dec.{eqb, leb}
+use Rattle.servers.specs.declared.Server.{Server}
+use Rattle.scheduler.specs.Scheduler.{Scheduler, holding}
+use Rattle.scheduler.specs.RoundRobin.{roundRobin}
+use Rattle.scheduler.specs.WeightedRoundRobin.{weightedRoundRobin}
+use Rattle.scheduler.specs.LeastConnection.{leastConnection}
+use Rattle.scheduler.specs.WeightedLeastConnection.{weightedLeastConnection}
+use Rattle.scheduler.specs.declared.walk.Walk.{Walk}
+use Rattle.scheduler.specs.declared.walk.Picked.{Picked}
+
+-- refusal 2 is given for "scheduler not 1..4" (SCOPE 4.2)
+abbrev pub isScheduler : ℕ → Bool
+isScheduler k = leb 1 k && leb k 4
+
+-- by a number that is no scheduler's nobody is picked
+abbrev pub noScheduler : Scheduler
+noScheduler = holding (λ s n w. Picked.Nobody)
+
+-- the scheduler of the number k
+abbrev pub schedulerOf : ℕ → Scheduler
+schedulerOf k =
+    cond (eqb k 1) roundRobin
+    (cond (eqb k 2) weightedRoundRobin
+    (cond (eqb k 3) leastConnection
+    (cond (eqb k 4) weightedLeastConnection noScheduler)))
+
+-- the start of scheduler k's walk among n servers
+abbrev pub startOf : ℕ → ℕ → Walk
+startOf k n = schedulerOf k .start n
+
+-- whether a walk is in the range of scheduler k
+abbrev pub inRange : ℕ → List Server → ℕ → Walk → Bool
+inRange k s n w = schedulerOf k .inRange s n w
+
+-- the walk of scheduler k after a weight was set
+abbrev pub afterWeight : ℕ → Walk → ℕ → ℕ → Walk
+afterWeight k w old new = schedulerOf k .afterWeight w old new
+
+-- the pick of scheduler k among the first n servers, with the walk after it
+abbrev pub pickOf : ℕ → List Server → ℕ → Walk → Picked
+pickOf k s n w = schedulerOf k .pick s n w

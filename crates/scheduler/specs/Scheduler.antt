@@ -1,0 +1,28 @@
+-- What a scheduler is. Assumes nothing: these are definitions.
+use mathlib.Core.Bool.{Bool}
+use mathlib.Core.List.{List}
+use Prim.Native.Nat.{ℕ}
+use Rattle.servers.specs.declared.Server.{Server}
+use Rattle.scheduler.specs.Walk.{restsAt, heldWalk}
+use Rattle.scheduler.specs.declared.walk.Walk.{Walk}
+use Rattle.scheduler.specs.declared.walk.Picked.{Picked}
+
+-- what a scheduler says, of n servers s and its walk w
+pub record Scheduler : Type 0 where
+  -- the walk that setup starts with, of n
+  pub start : ℕ → Walk
+  -- whether a walk is in its range, of s, n and w
+  pub inRange : List Server → ℕ → Walk → Bool
+  -- the walk after a weight call, of w and the weight before and after
+  pub afterWeight : Walk → ℕ → ℕ → Walk
+  -- who is picked, with the walk after it, of s, n and w
+  pub pick : List Server → ℕ → Walk → Picked
+
+-- "hold both place and cw at 0 always, and that is their range" (SCOPE 10.11): a scheduler with no walk of its own, by its pick
+abbrev pub holding : (List Server → ℕ → Walk → Picked) → Scheduler
+holding pick = record {
+  start = λ n. heldWalk;
+  inRange = λ s n w. restsAt 1 w;
+  afterWeight = λ w old new. w;
+  pick = pick;
+}
