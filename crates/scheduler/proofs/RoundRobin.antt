@@ -15,7 +15,6 @@ use Rattle.scheduler.specs.Ring.{afterIn, nextOf}
 use Rattle.scheduler.specs.RoundRobin.{keepsLevel, weighs, roundRobin}
 use Rattle.scheduler.specs.Laws.{EachZero, levelAfter, FirstFound, NextFound, NextLaw, Ranged, FoundBy, Picking}
 use Rattle.scheduler.specs.declared.walk.Place.{Place}
-use Rattle.scheduler.specs.declared.walk.Walk.{Walk}
 use Rattle.scheduler.specs.declared.walk.Picked.{Picked}
 use Rattle.scheduler.proofs.Walks.{at-some, rests-within}
 use Rattle.scheduler.proofs.Rings.{after-below, next-below, step-more, distance, ring-first}
