@@ -10,7 +10,7 @@ use lib.Seq.{length-take-le, take-append-le, drop-append-le, take-at, drop-at, t
 use borrow.Author.Tests.{le-ltb, eq-eqb}
 use Rattle.checksum.specs.Ones.{wordAt}
 use Rattle.packet.specs.Bytes.{addressAt, headerLength, totalLength, payloadLength, payload}
-use Rattle.packet.specs.Reading.{broken, fragment, headerOf, readTransport, packetOf, withTransport, readPacket, Whole}
+use Rattle.packet.specs.Reading.{broken, fragment, headerOf, readTransport, packetWith, withTransport, readPacket, Whole}
 use Rattle.packet.specs.Redirect.{addressPlace, redirected, Redirectable}
 use Rattle.packet.specs.Laws.{PastTotal}
 use Rattle.packet.specs.declared.read.Packet.{Packet}
@@ -95,7 +95,7 @@ module _ (protocol : ℕ) (p rest : List ℕ) (r : Packet) (taken : readPacket p
   unfolding readPacket
   unread =
       let own = eq-eqb (getD x 9 0) protocol (byte 9 (omega arith) ∙ was .own) in
-      let same : packetOf (headerOf x) (r .transport) ≡ packetOf (headerOf p) (r .transport) =
+      let same : packetWith (headerOf x) (r .transport) ≡ packetWith (headerOf p) (r .transport) =
       rw (header-same, total-same, word 12 (omega arith), word 14 (omega arith), word 16 (omega arith), word 18 (omega arith)) in
       let read : readPacket protocol x ≡ Taken r =
       rw (intact, unfragmented, own)

@@ -18,7 +18,7 @@ use Rattle.packet.specs.declared.read.Reading.the-variants.{Taken}
 use Rattle.packet.specs.declared.redirect.Side.{Side}
 use Rattle.packet.specs.declared.redirect.Side.the-variants.{Source, Destination}
 use Rattle.packet.specs.Bytes.{addressAt, headerLength, totalLength, payload}
-use Rattle.packet.specs.Reading.{broken, fragment, headerOf, flagsOf, noFlags, tcpMalformed, udpMalformed, portsOf, readTransport, packetOf, withTransport, readPacket}
+use Rattle.packet.specs.Reading.{broken, fragment, headerOf, flagsOf, noFlags, tcpMalformed, udpMalformed, portsOf, readTransport, packetWith, withTransport, readPacket}
 use Rattle.packet.specs.Redirect.{addressPlace, portPlace, sumPlace, transportEdited, redirected, Redirectable}
 use Rattle.packet.specs.Laws.{Given, withPort, withSide}
 use Rattle.packet.proofs.Places.{port-place, sum-place, other, port-apart}
@@ -92,7 +92,7 @@ module _ (protocol : ℕ) (side : Side) (a a′ port : ℕ) (t : List ℕ) (h : 
 -- one address set and the other as it was
 addresses-set : (side : Side) (a′ port : ℕ) (q p : List ℕ) (t : TransportHeader) → headerLength q ≡ headerLength p → totalLength q ≡ totalLength p
     → addressAt q (addressPlace side) ≡ a′ → addressAt q (addressPlace (other side)) ≡ addressAt p (addressPlace (other side))
-    → packetOf (headerOf q) (withPort side port t) ≡ withSide side a′ port (packetOf (headerOf p) t)
+    → packetWith (headerOf q) (withPort side port t) ≡ withSide side a′ port (packetWith (headerOf p) t)
 addresses-set Source a′ port q p t header total own kept = rw (header, total, own, kept)
 addresses-set Destination a′ port q p t header total own kept = rw (header, total, own, kept)
 
@@ -122,7 +122,7 @@ module _ (protocol : ℕ) (side : Side) (a′ port : ℕ) (p : List ℕ) (r : Pa
   unfragmented-still =
       rw (first-kept protocol side a′ port p can 6 (lit< tt), first-kept protocol side a′ port p can 7 (lit< tt)) (accepted protocol p r (given .taken) .unfragmented)
 
-  described-again : packetOf (headerOf q) (withPort side port (r .transport)) ≡ withSide side a′ port r
+  described-again : packetWith (headerOf q) (withPort side port (r .transport)) ≡ withSide side a′ port r
   described-again =
       let fits = given .address-fits in
       let own : addressAt q (addressPlace side) ≡ a′ = rw (redirected-high protocol side a′ port p can, redirected-low protocol side a′ port p can) (omega arith) in

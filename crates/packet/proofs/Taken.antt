@@ -17,7 +17,7 @@ use Rattle.packet.specs.declared.read.Transport.{Transport}
 use Rattle.packet.specs.declared.read.Transport.the-variants.{Malformed, Carried}
 use Rattle.packet.specs.declared.read.Reading.the-variants.{Refused, Taken}
 use Rattle.packet.specs.Bytes.{payload}
-use Rattle.packet.specs.Reading.{broken, fragment, headerOf, readHeader, onHeader, tcpTests, tcpMalformed, udpTests, udpMalformed, readTcp, readUdp, readTransport, packetOf, withTransport, readPacket}
+use Rattle.packet.specs.Reading.{broken, fragment, headerOf, readHeader, onHeader, tcpTests, tcpMalformed, udpTests, udpMalformed, readTcp, readUdp, readTransport, packetWith, withTransport, readPacket}
 use Rattle.packet.specs.Redirect.{sumPlace, Redirectable}
 use Rattle.packet.proofs.Whole.{none, whole}
 use Rattle.packet.proofs.Redirected.{payload-length}
@@ -48,15 +48,15 @@ pub record Accepted (protocol : ℕ) (p : List ℕ) (r : Packet) : Type 0 where
   pub unfragmented : fragment p ≡ false
   pub own : getD p 9 0 ≡ protocol
   pub carried : readTransport protocol (payload p) ≡ Carried (r .transport)
-  pub fields : packetOf (headerOf p) (r .transport) ≡ r
+  pub fields : packetWith (headerOf p) (r .transport) ≡ r
 
 with-transport : (h : Header) (t : Transport) (r : Packet) → withTransport h t ≡ Taken r
-    → (t ≡ Carried (r .transport)) × (packetOf h (r .transport) ≡ r)
+    → (t ≡ Carried (r .transport)) × (packetWith h (r .transport) ≡ r)
 with-transport h Malformed r e = absurd (refused Fault.MalformedTransport r e)
 with-transport h (Carried t) r e =
-    let whole : packetOf h t ≡ r = cc in
+    let whole : packetWith h t ≡ r = cc in
     let same : t ≡ r .transport = ap (λ (x : Packet). x .transport) whole in
-    (ap Carried same, ap (packetOf h) (sym same) ∙ whole)
+    (ap Carried same, ap (packetWith h) (sym same) ∙ whole)
 
 pub accepted : (protocol : ℕ) (p : List ℕ) (r : Packet) → readPacket protocol p ≡ Taken r → Accepted protocol p r
 unfolding readPacket

@@ -1,4 +1,4 @@
--- What reading a packet finds (RFC 791, 9293, 768), and which of refusals 6 to 9 it meets. Assumes nothing: these are definitions.
+-- What reading a packet finds (RFC 791, 9293, 768), and which of refusals 6 to 9 it meets (SCOPE 4.6 to 4.9). Assumes nothing: these are definitions.
 use Prim.Native.Nat.{ℕ, _-_, _*_, _/_, _%_, _≤_}
 use mathlib.Core.Path.{_≡_}
 use mathlib.Core.List.{List, [], _∷_}
@@ -73,7 +73,7 @@ readHeader p =
     cond (broken p) (HeaderReading.Refused Fault.MalformedHeader)
     (cond (fragment p) (HeaderReading.Refused Fault.Fragment) (HeaderReading.Read (headerOf p)))
 
--- 9 for TCP: payload under 20 bytes, data offset under 5 words or past the payload
+-- SCOPE 4.9 for TCP: payload under 20 bytes, data offset under 5 words or past the payload
 abbrev pub tcpTests : List ℕ → List Bool
 tcpTests t = ltb (length t) 20 ∷ ltb (getD t 12 0 / 16) 5 ∷ ltb (length t) (getD t 12 0 / 16 * 4) ∷ []
 
@@ -112,13 +112,13 @@ abbrev pub readTransport : ℕ → List ℕ → Transport
 readTransport protocol t = cond (eqb protocol 6) (readTcp t) (readUdp t)
 
 -- a header's lengths and addresses, with the transport header that was read
-abbrev pub packetOf : Header → TransportHeader → Packet
-packetOf h t = record { header = h .length; total = h .total; source = h .source; destination = h .destination; transport = t }
+abbrev pub packetWith : Header → TransportHeader → Packet
+packetWith h t = record { header = h .length; total = h .total; source = h .source; destination = h .destination; transport = t }
 
 -- refusal 9 for a malformed transport part, else the packet
 abbrev pub withTransport : Header → Transport → Reading
 withTransport h Malformed = Refused Fault.MalformedTransport
-withTransport h (Carried t) = Taken (packetOf h t)
+withTransport h (Carried t) = Taken (packetWith h t)
 
 -- the packet with what reading its transport part finds, which stands from the header's length up to the total length
 abbrev pub readPayload : ℕ → Header → List ℕ → Reading

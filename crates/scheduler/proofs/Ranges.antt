@@ -2,20 +2,16 @@
 use mathlib.Core.Path.{ap}
 use Prim.Native.Nat.{ℕ}
 use lib.Dec.{eqb}
-use Rattle.lists.proofs.Cases.{by-test}
 use Rattle.scheduler.specs.ByNumber.{schedulerOf}
 use Rattle.scheduler.specs.Laws.{Ranged, StartLaw, WeightLaw, CountLaw, PlaceLaw}
+use Rattle.scheduler.proofs.Numbers.{by-number}
 use Rattle.scheduler.proofs.Largest.{same-largest}
 use Rattle.scheduler.proofs.Walks.{holding-ranged}
 use Rattle.scheduler.proofs.RoundRobin.{round-robin-ranged}
 use Rattle.scheduler.proofs.WeightedRoundRobin.{weighted-ranged}
 
 ranged : (k : ℕ) → Ranged (schedulerOf k)
-ranged k =
-    by-test Ranged (eqb k 1) _ _ (λ e. round-robin-ranged)
-    (λ e. by-test Ranged (eqb k 2) _ _ (λ e. weighted-ranged)
-    (λ e. by-test Ranged (eqb k 3) _ _ (λ e. holding-ranged _)
-    (λ e. by-test Ranged (eqb k 4) _ _ (λ e. holding-ranged _) (λ e. holding-ranged _))))
+ranged k = by-number Ranged k round-robin-ranged weighted-ranged (holding-ranged _) (holding-ranged _) (λ e. holding-ranged _)
 
 pub start-in-range : StartLaw
 start-in-range k = ranged k .started

@@ -118,13 +118,16 @@ abbrev pub Within : ℕ → Place → Type 0
 Within n Place.Start = Unit {0}
 Within n (Place.At i) = i .0 < n
 
--- the walk of scheduler c is in its range at its start; if it was, after server i's weight is set to x; and a count set to x
--- changes nothing about it; in its range it is at no other place than -1 and the n servers
+-- what keeps the walk of scheduler c in its range
 pub record Ranged (c : Scheduler) : Type 0 where
+  -- it is there at its start
   pub started : (s : List Server) (n : ℕ) → 0 < n → c .inRange s n (c .start n) ≡ true
+  -- and, if it was, after a weight call: server i's weight is set to x
   pub weighed : (s : List Server) (n i x : ℕ) (w : Walk) → c .inRange s n w ≡ true
       → c .inRange (withWeight s i x) n (c .afterWeight w (weightAt s i) x) ≡ true
+  -- a count set to x changes nothing about it
   pub counted : (s : List Server) (n i x : ℕ) (w : Walk) → c .inRange (withCount s i x) n w ≡ c .inRange s n w
+  -- no other place than -1 and the n servers is in it
   pub placed : (s : List Server) (n : ℕ) (w : Walk) → 0 < n → c .inRange s n w ≡ true → Within n (w .place)
 
 -- an existing server whose weight is above 0, and a walk in the range of scheduler c; nobody only where each weight is 0
@@ -138,6 +141,7 @@ Picking c = (s : List Server) (n : ℕ) (w : Walk) → c .inRange s n w ≡ true
 
 -- 5. The pick
 
+-- what was picked by scheduler k
 abbrev pub PickFound : ℕ → List Server → ℕ → Picked → Type 0
 PickFound k s n p = FoundBy (schedulerOf k) s n p
 

@@ -11,7 +11,7 @@ use Rattle.scheduler.specs.declared.least_loaded.Load.{Load}
 use Rattle.scheduler.specs.declared.walk.Walk.{Walk}
 use Rattle.scheduler.specs.declared.walk.Picked.{Picked}
 
--- the load of a beside b: its count (scheduler 3), or its side in "count/weight .. compared by cross products" (SCOPE 10.9) (4)
+-- the load of a beside b: its count (scheduler 3), or its side in "count/weight .. compared by cross products" (4: SCOPE 10.9)
 abbrev pub loadBeside : Load → Server → Server → ℕ
 loadBeside Load.Count a b = a .count
 loadBeside Load.PerWeight a b = a .count * b .weight

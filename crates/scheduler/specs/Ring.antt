@@ -6,7 +6,7 @@ use Rattle.scheduler.specs.declared.walk.Place.{Place}
 use Rattle.scheduler.specs.declared.walk.Walk.{Walk}
 use Rattle.scheduler.specs.declared.walk.Picked.{Picked}
 
--- "(i+1) mod n" (SCOPE 10.5) (proofs/Rings: after-mod)
+-- "(i+1) mod n" (SCOPE 10.5; proofs/Rings: after-mod)
 abbrev pub afterIn : ℕ → ℕ → ℕ
 afterIn n i = cond (ltb (i + 1) n) (i + 1) 0
 

@@ -17,7 +17,7 @@ use walk::is_held;
 ghost use mathlib.Core.Path.{_≡_};
 ghost use Rattle.scheduler.specs.ByNumber.{isScheduler, startOf, inRange, afterWeight, pickOf};
 
-// Whether a number is a scheduler's.
+// Whether a number is a scheduler's (refusal 2).
 pub fn is_scheduler(scheduler: u8) -> bool
     ensures { λ r. ⌜ r ≡ isScheduler scheduler ⌝ }
 {
