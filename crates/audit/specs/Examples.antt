@@ -93,7 +93,7 @@ abbrev pub opening : Director → Result
 opening d = packetOf Way.Inbound d (replicate 5 0) p11-in 0
 
 -- the answer of a tick over one connection, of server 0, that was last seen at 100
-abbrev pub tickOver : ℕ → ℕ → ℕ → ℕ
+abbrev pub tickOver : (protocol phase now : ℕ) → ℕ
 tickOver protocol phase now =
     answered (tickOf (directorOf protocol 1 (server 6432 1 1 ∷ server 6433 1 0 ∷ []) 100) (words (slotOf phase 0x0A000001 40000 0 100 ∷ [])) now .answer)
 

@@ -21,7 +21,7 @@ pub record Edit (ws : List ℕ) (i j m′ : ℕ) : Type 0 where
   pub third : (k ≢ i) × (k ≢ j) × (0 < getD ws k 0)
 
 -- the exception of equation 3: checksum and old word are FFFF and the new word is 0
-abbrev pub Exception : ℕ → ℕ → ℕ → Type 0
+abbrev pub Exception : (hc m m′ : ℕ) → Type 0
 Exception hc m m′ = (hc ≡ 65535) × (m ≡ 65535) × (m′ ≡ 0)
 
 pub record Laws : Type 0 where

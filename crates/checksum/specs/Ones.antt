@@ -49,7 +49,7 @@ abbrev pub verifies : List ℕ → Bool
 verifies ws = eqb (onesSum ws) 65535
 
 -- RFC 1624, equation 3: HC' = ~(~HC + ~m + m')
-unfoldable pub edited : ℕ → ℕ → ℕ → ℕ
+unfoldable pub edited : (hc m m′ : ℕ) → ℕ
 edited hc m m′ = inverted (onesAdd (onesAdd (inverted hc) (inverted m)) m′)
 
 -- a freshly calculated checksum, over words of which the checksum's own is 0
@@ -57,9 +57,9 @@ abbrev pub fresh : List ℕ → ℕ
 fresh ws = inverted (onesSum ws)
 
 -- the checksum at i after the word at j became m′
-abbrev pub editedAt : List ℕ → ℕ → ℕ → ℕ → ℕ
+abbrev pub editedAt : List ℕ → (i j m′ : ℕ) → ℕ
 editedAt ws i j m′ = edited (getD ws i 0) (getD ws j 0) m′
 
 -- the words after the one at j became m′ and the checksum at i was edited for it
-abbrev pub withWord : List ℕ → ℕ → ℕ → ℕ → List ℕ
+abbrev pub withWord : List ℕ → (i j m′ : ℕ) → List ℕ
 withWord ws i j m′ = set (set ws j m′) i (editedAt ws i j m′)

@@ -56,7 +56,7 @@ pub record LeavesFresh (protocol : ℕ) (side : Side) (a′ port : ℕ) (p : Lis
   pub none : protocol ≢ 6 → transportChecksum protocol p ≡ 0 → transportChecksum protocol (redirected protocol side a′ port p) ≡ 0
 
 -- a place that is none of the k places from at on
-abbrev pub Outside : ℕ → ℕ → ℕ → Type 0
+abbrev pub Outside : (at k i : ℕ) → Type 0
 Outside at k i = (j : ℕ) → j < k → i ≢ at + j
 
 -- what is not written stays: all but header checksum, address, port and transport checksum

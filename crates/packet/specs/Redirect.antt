@@ -25,7 +25,7 @@ abbrev pub sumPlace : ℕ → ℕ
 sumPlace protocol = cond (eqb protocol 6) 16 6
 
 -- a checksum edited for the two words of an address that becomes a′
-abbrev pub editedAddress : ℕ → ℕ → ℕ → ℕ
+abbrev pub editedAddress : (sum a a′ : ℕ) → ℕ
 editedAddress sum a a′ = edited (edited sum (a / 65536) (a′ / 65536)) (a % 65536) (a′ % 65536)
 
 -- the packet with the address at a place become a′; "The header checksum is edited over the two address words" (SCOPE 7.5)
@@ -41,15 +41,15 @@ abbrev pub udpWritten : ℕ → ℕ → ℕ
 udpWritten sum sum′ = cond (eqb sum 0) 0 (transmitted sum′)
 
 -- the transport checksum to write for the one found and the edited one
-unfoldable pub sumWritten : ℕ → ℕ → ℕ → ℕ
+unfoldable pub sumWritten : (protocol sum sum′ : ℕ) → ℕ
 sumWritten protocol sum sum′ = cond (eqb protocol 6) sum′ (udpWritten sum sum′)
 
 -- a transport part's checksum edited for an address that becomes a′ and the word at a place that becomes port
-abbrev pub transportSum : ℕ → ℕ → ℕ → ℕ → ℕ → List ℕ → ℕ
+abbrev pub transportSum : (protocol at a a′ port : ℕ) → List ℕ → ℕ
 transportSum protocol at a a′ port t = edited (editedAddress (wordAt t (sumPlace protocol)) a a′) (wordAt t at) port
 
 -- the transport part with the port at a place set; "the transport checksum over these and the port word" (SCOPE 7.5)
-unfoldable pub transportEdited : ℕ → ℕ → ℕ → ℕ → ℕ → List ℕ → List ℕ
+unfoldable pub transportEdited : (protocol at a a′ port : ℕ) → List ℕ → List ℕ
 transportEdited protocol at a a′ port t =
     setWord (setWord t at port) (sumPlace protocol) (sumWritten protocol (wordAt t (sumPlace protocol)) (transportSum protocol at a a′ port t))
 

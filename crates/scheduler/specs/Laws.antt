@@ -68,7 +68,7 @@ abbrev pub AfterLaw : Type 0
 AfterLaw = (n i : ℕ) → i < n → afterIn n i ≡ (i + 1) % n
 
 -- the level at the number e steps after i, where the walk comes to i at the level cw
-unfoldable pub levelAfter : (ℕ → ℕ → ℕ) → ℕ → ℕ → ℕ → ℕ → ℕ
+unfoldable pub levelAfter : (ℕ → ℕ → ℕ) → (n e i cw : ℕ) → ℕ
 levelAfter level n zero i cw = level i cw
 levelAfter level n (suc e) i cw = levelAfter level n e (afterIn n i) (level i cw)
 
@@ -83,7 +83,7 @@ module _ (level : ℕ → ℕ → ℕ) (picks : ℕ → ℕ → Bool) (n : ℕ) 
     pub passed : (e : ℕ) → e < steps → picks ((i + e) % n) (levelAfter level n e i cw) ≡ false
 
   -- what was picked is the first that is taken; nobody only where none of the k is
-  abbrev pub FirstFound : ℕ → ℕ → ℕ → Picked → Type 0
+  abbrev pub FirstFound : (k i cw : ℕ) → Picked → Type 0
   FirstFound k i cw (Picked.Server r w) = IsFirst k i cw r w
   FirstFound k i cw Picked.Nobody = (e : ℕ) → e < k → picks ((i + e) % n) (levelAfter level n e i cw) ≡ false
 

@@ -21,7 +21,7 @@ pickedAt i cw = Picked.Server (record { 0 = i }) (record { place = Place.At (rec
 
 -- The walk round the ring of n servers, from the number i on, for k numbers at most. At a number the level becomes what
 -- `level` says of the number and the level so far; the first number that `picks` takes at its level is picked.
-unfoldable pub ringFrom : (ℕ → ℕ → ℕ) → (ℕ → ℕ → Bool) → ℕ → ℕ → ℕ → ℕ → Picked
+unfoldable pub ringFrom : (ℕ → ℕ → ℕ) → (ℕ → ℕ → Bool) → (n k i cw : ℕ) → Picked
 ringFrom level picks n zero i cw = Picked.Nobody
 ringFrom level picks n (suc k) i cw =
     let next = level i cw in

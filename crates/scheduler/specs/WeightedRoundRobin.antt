@@ -27,7 +27,7 @@ inLevels n m w = leb (w .level) m && levelPlace n (w .level) (w .place)
 
 -- the level at the number i: "if i is 0, cw drops by the greatest common divisor of all weights" (SCOPE 10.5), g, "and if not above 0
 -- becomes the largest weight" (SCOPE 10.5), m
-abbrev pub levelAt : ℕ → ℕ → ℕ → ℕ → ℕ
+abbrev pub levelAt : (g m i cw : ℕ) → ℕ
 levelAt g m i cw = cond (eqb i 0) (cond (ltb 0 (cw - g)) (cw - g) m) cw
 
 -- a server "with weight at least cw" (SCOPE 10.5) is taken
@@ -35,7 +35,7 @@ abbrev pub reaches : List Server → ℕ → ℕ → Bool
 reaches s i cw = leb cw (weightAt s i)
 
 -- "the first server with weight at least cw is picked" (SCOPE 10.5); nobody where the largest weight is 0
-abbrev pub pickWith : List Server → ℕ → ℕ → ℕ → Walk → Picked
+abbrev pub pickWith : List Server → (n g m : ℕ) → Walk → Picked
 pickWith s n g m w = cond (eqb m 0) Picked.Nobody (ringOf (levelAt g m) (reaches s) n w)
 
 abbrev pub weightedRoundRobin : Scheduler

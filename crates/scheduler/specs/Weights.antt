@@ -8,7 +8,7 @@ use Rattle.servers.specs.Servers.{weightAt}
 use Rattle.servers.specs.declared.Server.{Server}
 
 -- Euclid's algorithm in at most k steps: b, then the remainder of a by b
-unfoldable pub euclid : ℕ → ℕ → ℕ → ℕ
+unfoldable pub euclid : (k a b : ℕ) → ℕ
 euclid zero a b = a
 euclid (suc k) a zero = a
 euclid (suc k) a (suc b) = euclid k (suc b) (a % suc b)
