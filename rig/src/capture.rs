@@ -4,6 +4,7 @@
 use crate::lab::{ensure, fail, wait_for, Failure, Lab, Running, SIGTERM};
 use crate::network::{balanced, server, DEVICE, SERVER_PORT, VIRTUAL, VIRTUAL_PORT};
 use crate::packet::{self, Packet};
+use programs::TCPDUMP;
 use std::collections::HashSet;
 use std::fs;
 use std::path::{Path, PathBuf};
@@ -32,7 +33,7 @@ impl Capture {
     fn start(lab: &Lab, interface: &str, filter: &str) -> Result<Capture, Failure> {
         let file = lab.run.join(format!("{interface}.pcap"));
         let log = lab.run.join(format!("{interface}.tcpdump"));
-        let mut command = lab.command("director", "tcpdump");
+        let mut command = lab.command("director", TCPDUMP);
         // As root: it would otherwise change to a user who can't write here. Immediately: none is left behind at the end.
         command.args(["-n", "-Z", "root", "--immediate-mode", "-s", SNAPSHOT, "-B", BUFFER]);
         command.args(["-i", interface, "-w"]).arg(&file).arg(filter);

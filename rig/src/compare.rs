@@ -11,8 +11,8 @@ use crate::network::{self, direct, SERVER_PORT, VIRTUAL, VIRTUAL_PORT};
 use crate::postgres::Postgres;
 use crate::service::REPLICAS;
 use crate::timeline::Timeline;
+use programs::{IP, PGBENCH};
 use std::fs;
-use std::process::Command;
 use std::time::Instant;
 
 /// Every way is measured so often; the middle one of the results counts.
@@ -137,7 +137,7 @@ fn start_director(lab: &Lab, slots: usize, kind: &Kind) -> Result<Director, Fail
 
 /// Runs pgbench; tells transactions a second. Any failure of a transaction or connection fails.
 fn pgbench(lab: &Lab, address: &str, port: &str, kind: &Kind) -> Result<f64, Failure> {
-    let mut command = lab.command("client", lab.postgres.join("pgbench"));
+    let mut command = lab.command("client", PGBENCH);
     command.args(["-n", "-T", SECONDS, "-f"]).arg(lab.run.join("one.sql")).args(kind.flags);
     command.args(["-h", address, "-p", port, "-U", "postgres", "postgres"]);
     let said = output(&mut command)?;
@@ -148,7 +148,7 @@ fn pgbench(lab: &Lab, address: &str, port: &str, kind: &Kind) -> Result<f64, Fai
 
 /// The processor time that the program of that name in the director's namespace has taken so far, in seconds.
 fn processor_time(lab: &Lab, program: &str) -> Result<f64, Failure> {
-    let processes = output(Command::new("ip").args(["netns", "pids", &lab.namespace("director")]))?;
+    let processes = output(IP.command().args(["netns", "pids", &lab.namespace("director")]))?;
     // A process may have ended meanwhile: it then has no such file.
     let stats = processes
         .lines()

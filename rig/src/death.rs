@@ -10,6 +10,7 @@ use crate::payments::Client;
 use crate::service::REPLICAS;
 use crate::status::Standing;
 use crate::timeline::Timeline;
+use programs::{IP, SYSCTL};
 use std::thread::JoinHandle;
 use std::time::{Duration, Instant};
 
@@ -34,7 +35,7 @@ const PATIENCE: Duration = Duration::from_secs(60);
 pub fn run(lab: &Lab, timeline: &Timeline) -> Result<(), Failure> {
     timeline.title("A replica dies without a word");
     let mut observed = Observed::start(lab, timeline, CLOCK_SPEED)?;
-    lab.output("client", "sysctl", &["-q", "-w", RETRIES])?;
+    lab.output("client", SYSCTL, &["-q", "-w", RETRIES])?;
     observed.open_on_each(EACH)?;
     let mut drill = Drill { lab, timeline, observed };
     let dying = drill.cut_link()?;
@@ -58,7 +59,7 @@ struct Drill<'a> {
 impl Drill<'_> {
     /// The link of the replica is cut at its own side; its sessions send one more statement each.
     fn cut_link(&mut self) -> Result<Vec<Hanging>, Failure> {
-        self.lab.output(&server(DEAD), "ip", &["link", "set", "eth0", "down"])?;
+        self.lab.output(&server(DEAD), IP, &["link", "set", "eth0", "down"])?;
         self.timeline.tell(format!("the link of replica {DEAD} is cut: no FIN, no RST"));
         let dying = self.observed.take_clients_of(DEAD);
         Ok(dying.into_iter().map(|mut client| std::thread::spawn(move || client.look())).collect())
@@ -151,7 +152,7 @@ impl Drill<'_> {
 
     /// The link is there again: the replica gets its weight, and the next session.
     fn put_back(&mut self) -> Result<(), Failure> {
-        let ip = |args: &[&str]| self.lab.output(&server(DEAD), "ip", args);
+        let ip = |args: &[&str]| self.lab.output(&server(DEAD), IP, args);
         ip(&["link", "set", "eth0", "up"])?;
         // The kernel took the route away with the link.
         ip(&["route", "replace", "default", "via", &gateway(DEAD)])?;

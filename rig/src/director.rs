@@ -3,11 +3,12 @@
 use crate::lab::{ensure, fail, output, Failure, Lab, Running, SIGTERM};
 use crate::network::{balanced, DEVICE, SERVER_PORT, VIRTUAL, VIRTUAL_PORT};
 use crate::status::Status;
+use programs::{NIDHAAGUFCTL, NIDHAAGUFD};
 use std::fmt::Write;
 use std::fs;
 use std::io::{BufRead, BufReader};
 use std::path::PathBuf;
-use std::process::{Command, Stdio};
+use std::process::Stdio;
 use std::sync::mpsc;
 use std::time::Duration;
 
@@ -37,7 +38,6 @@ impl Default for Options {
 /// A running director.
 #[derive(Debug)]
 pub struct Director {
-    lab: Lab,
     running: Running,
     socket: PathBuf,
 }
@@ -47,7 +47,7 @@ impl Director {
     pub fn start(lab: &Lab, options: &Options) -> Result<Director, Failure> {
         let (file, socket) = (lab.run.join("director.conf"), lab.run.join("director.sock"));
         fs::write(&file, configuration(options, &socket.display().to_string()))?;
-        let mut command = lab.command("director", lab.binaries.join("nidhaagufd"));
+        let mut command = lab.command("director", NIDHAAGUFD);
         command
             .arg("--config")
             .arg(&file)
@@ -64,7 +64,7 @@ impl Director {
         let log = || fs::read_to_string(lab.run.join("director.log")).unwrap_or_default();
         match receiver.recv_timeout(PATIENCE) {
             Ok(line) if line.starts_with("ready: ") => {
-                Ok(Director { lab: lab.clone(), running, socket })
+                Ok(Director { running, socket })
             }
             Ok(line) => fail(format!("the director said '{line}' and not that it is ready")),
             Err(_) => fail(format!("the director didn't get ready: {}", log().trim())),
@@ -113,7 +113,7 @@ impl Director {
     }
 
     fn ask(&self, args: &[&str]) -> Result<String, Failure> {
-        let mut command = Command::new(self.lab.binaries.join("nidhaagufctl"));
+        let mut command = NIDHAAGUFCTL.command();
         output(command.arg("--socket").arg(&self.socket).args(args))
     }
 }

@@ -2,6 +2,7 @@
 
 use crate::lab::{ensure, wait_for, Failure, Lab, Running};
 use crate::network::{direct, SERVER_PORT, VIRTUAL_PORT};
+use programs::{HAPROXY, IP, SS};
 use std::fmt::Write;
 use std::fs;
 use std::time::Duration;
@@ -21,19 +22,15 @@ impl Haproxy {
     pub fn start(lab: &Lab, replicas: usize) -> Result<Haproxy, Failure> {
         let file = lab.run.join("haproxy.cfg");
         fs::write(&file, configuration(replicas))?;
-        lab.output(
-            "director",
-            "ip",
-            &["address", "replace", &format!("{ADDRESS}/32"), "dev", "lo"],
-        )?;
-        let mut command = lab.command("director", "haproxy");
+        lab.output("director", IP, &["address", "replace", &format!("{ADDRESS}/32"), "dev", "lo"])?;
+        let mut command = lab.command("director", HAPROXY);
         command.args(["-db", "-q", "-f"]).arg(&file);
         let mut running = Running::start(
             command.stdout(lab.log("haproxy.log")?).stderr(lab.log("haproxy.log")?),
         )?;
         wait_for("HAProxy listens", PATIENCE, || {
             ensure(running.is_alive()?, "HAProxy ended")?;
-            let listening = lab.output("director", "ss", &["-Hltn"])?;
+            let listening = lab.output("director", SS, &["-Hltn"])?;
             Ok(listening.contains(&format!("{ADDRESS}:{VIRTUAL_PORT} ")).then_some(()))
         })?;
         Ok(Haproxy { _running: running })

@@ -7,6 +7,7 @@
 use crate::lab::{ensure, wait_for, Failure, Lab, Running, SIGTERM};
 use crate::network::{balanced, server, CLIENT, DEVICE, VIRTUAL};
 use crate::relay::{Counts, Rates};
+use programs::{IMPAIR, IP, NFT};
 use std::fs;
 use std::path::PathBuf;
 use std::process::Stdio;
@@ -56,7 +57,7 @@ impl Impairment {
     /// Starts the relay and leads all packets of the service through it. The director's device is up already.
     pub fn start(lab: &Lab, servers: usize, plan: Plan) -> Result<Impairment, Failure> {
         let said = lab.run.join("impair.log");
-        let mut command = lab.command("director", lab.binaries.join("impair"));
+        let mut command = lab.command("director", IMPAIR);
         let Rates { loss, duplicate, reorder } = plan.rates;
         let numbers = [
             ("--seed", plan.seed),
@@ -76,7 +77,7 @@ impl Impairment {
         })?;
         let filters = lab.run.join("impairment.nft");
         fs::write(&filters, filter_rules(plan))?;
-        lab.output("director", "nft", &["-f", &filters.display().to_string()])?;
+        lab.output("director", NFT, &["-f", &filters.display().to_string()])?;
         route(lab, servers)?;
         Ok(Impairment { lab: lab.clone(), running, said })
     }
@@ -90,11 +91,8 @@ impl Impairment {
         let counts = said.lines().last().and_then(Counts::parse);
         let counts =
             counts.ok_or(Failure(format!("the relay ended with {status} and said {said}")))?;
-        let counters = self.lab.output(
-            "director",
-            "nft",
-            &["list", "counters", "table", "ip", "impairment"],
-        )?;
+        let counters =
+            self.lab.output("director", NFT, &["list", "counters", "table", "ip", "impairment"])?;
         let legs = [0, 1, 2, 3].map(|leg| counted(&counters, LEGS[leg]));
         let past_relay = counted(&counters, "past_relay");
         ensure(past_relay == 0, format!("{past_relay} packets went past the relay"))?;
@@ -111,7 +109,7 @@ impl Impairment {
 
 /// The rules by which each packet goes through the relay once before the director and once after it.
 fn route(lab: &Lab, servers: usize) -> Result<(), Failure> {
-    let ip = |args: &[&str]| lab.output("director", "ip", args).map(|_| ());
+    let ip = |args: &[&str]| lab.output("director", IP, args).map(|_| ());
     ip(&["link", "set", RELAY, "up"])?;
     ip(&["route", "add", "default", "dev", RELAY, "table", TO_RELAY])?;
     ip(&["route", "add", "default", "dev", DEVICE, "table", TO_DIRECTOR])?;

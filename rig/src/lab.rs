@@ -1,6 +1,6 @@
 //! The laboratory of one run: its network namespaces by name, commands in them, and the children that run there.
 
-use std::ffi::OsStr;
+use programs::{Program, IP};
 use std::fmt;
 use std::fs::{self, File};
 use std::os::unix::fs::{chown, MetadataExt};
@@ -80,10 +80,6 @@ pub struct Lab {
     pub run: PathBuf,
     /// The data directory that PostgreSQL servers begin as copies of.
     pub template: PathBuf,
-    /// Where `nidhaagufd`, `nidhaagufctl` and `impair` are.
-    pub binaries: PathBuf,
-    /// Where PostgreSQL's `initdb`, `pg_ctl`, `psql` and `pgbench` are.
-    pub postgres: PathBuf,
 }
 
 impl Lab {
@@ -94,13 +90,7 @@ impl Lab {
                 .map_err(|_| Failure(format!("{name} is not set: start the rig by rig/drill")))
         };
         let run = PathBuf::from(get("RIG_RUN")?);
-        Ok(Lab {
-            prefix: get("RIG_PREFIX")?,
-            template: run.join("template"),
-            run,
-            binaries: get("RIG_BINARIES")?.into(),
-            postgres: get("RIG_POSTGRES")?.into(),
-        })
+        Ok(Lab { prefix: get("RIG_PREFIX")?, template: run.join("template"), run })
     }
 
     /// A part of the laboratory for one drill, with namespaces and a directory of its own.
@@ -119,14 +109,14 @@ impl Lab {
     }
 
     /// A command that will run in that namespace. Its process number is the program's own.
-    pub fn command(&self, name: &str, program: impl AsRef<OsStr>) -> Command {
-        let mut command = Command::new("ip");
-        command.args(["netns", "exec", &self.namespace(name)]).arg(program).stdin(Stdio::null());
+    pub fn command(&self, name: &str, program: Program) -> Command {
+        let mut command = IP.command();
+        command.args(["netns", "exec", &self.namespace(name), program.name()]).stdin(Stdio::null());
         command
     }
 
     /// Runs a program in that namespace to its end, and gives what it wrote.
-    pub fn output(&self, name: &str, program: &str, args: &[&str]) -> Result<String, Failure> {
+    pub fn output(&self, name: &str, program: Program, args: &[&str]) -> Result<String, Failure> {
         output(self.command(name, program).args(args))
     }
 

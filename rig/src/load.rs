@@ -2,6 +2,7 @@
 
 use crate::lab::{ensure, Failure, Lab, Running, SIGALRM};
 use crate::network::{VIRTUAL, VIRTUAL_PORT};
+use programs::PGBENCH;
 use std::fs;
 use std::path::PathBuf;
 use std::time::Duration;
@@ -53,7 +54,7 @@ impl Load {
         let (script, log) = (lab.run.join("load.sql"), lab.run.join(format!("{}.log", plan.name)));
         fs::write(&script, SCRIPT)?;
         let output = fs::File::create(&log)?;
-        let mut command = lab.command("client", lab.postgres.join("pgbench"));
+        let mut command = lab.command("client", PGBENCH);
         command.args(["-n", "-T", LONGEST, "-c", &plan.clients.to_string(), "-f"]).arg(&script);
         command.args(["-R", &plan.rate.to_string()]).args(plan.reconnect.then_some("-C"));
         command.args(["-h", VIRTUAL, "-p", VIRTUAL_PORT, "-U", "postgres", "postgres"]);

@@ -2,6 +2,7 @@
 
 use crate::lab::{Failure, Lab};
 use crate::network::{direct, SERVER_PORT, VIRTUAL_PORT};
+use programs::NFT;
 use std::fs;
 
 /// The address that is translated; nothing else uses it.
@@ -18,7 +19,7 @@ impl Nat {
     pub fn start(lab: &Lab, replicas: usize) -> Result<Nat, Failure> {
         let file = lab.run.join("nat.nft");
         fs::write(&file, rules(replicas))?;
-        lab.output("director", "nft", &["-f", &file.display().to_string()])?;
+        lab.output("director", NFT, &["-f", &file.display().to_string()])?;
         Ok(Nat { lab: lab.clone() })
     }
 }
@@ -26,7 +27,7 @@ impl Nat {
 impl Drop for Nat {
     fn drop(&mut self) {
         // It fails only where the namespace is gone, and the table with it.
-        let _ = self.lab.output("director", "nft", &["delete", "table", "ip", "translation"]);
+        let _ = self.lab.output("director", NFT, &["delete", "table", "ip", "translation"]);
     }
 }
 

@@ -1,6 +1,7 @@
 //! The network of the rig: a client, the director and the servers, each in a namespace of its own, joined by veth pairs.
 
 use crate::lab::{wait_for, Failure, Lab};
+use programs::{IP, SS, SYSCTL};
 use std::time::Duration;
 
 /// The virtual address, at which clients reach the service.
@@ -50,12 +51,12 @@ pub fn make(lab: &Lab, servers: usize) -> Result<(), Failure> {
         "net.ipv4.conf.all.rp_filter=0",
         "net.ipv4.conf.default.rp_filter=0",
     ];
-    lab.output("director", "sysctl", &[&["-q", "-w"], &settings[..]].concat())?;
+    lab.output("director", SYSCTL, &[&["-q", "-w"], &settings[..]].concat())?;
     join(lab, "client", CLIENT, DIRECTOR)?;
     for k in 0..servers {
         join(lab, &server(k), &balanced(k), &gateway(k))?;
         let address = format!("{}/24", direct(k));
-        lab.output(&server(k), "ip", &["address", "add", &address, "dev", "eth0"])?;
+        lab.output(&server(k), IP, &["address", "add", &address, "dev", "eth0"])?;
     }
     Ok(())
 }
@@ -63,11 +64,11 @@ pub fn make(lab: &Lab, servers: usize) -> Result<(), Failure> {
 /// Brings the director's device up, and leads to it what goes to the virtual address and what servers send back from
 /// their balanced addresses.
 pub fn attach(lab: &Lab, servers: usize) -> Result<(), Failure> {
-    let ip = |args: &[&str]| lab.output("director", "ip", args).map(|_| ());
+    let ip = |args: &[&str]| lab.output("director", IP, args).map(|_| ());
     ip(&["link", "set", DEVICE, "up"])?;
     ip(&["route", "replace", VIRTUAL, "dev", DEVICE])?;
     ip(&["route", "replace", "default", "dev", DEVICE, "table", TABLE])?;
-    let rules = lab.output("director", "ip", &["rule", "list"])?;
+    let rules = lab.output("director", IP, &["rule", "list"])?;
     for k in 0..servers {
         // The rules outlive a director, its routes don't.
         if !rules.contains(&format!("from {} ", balanced(k))) {
@@ -78,12 +79,8 @@ pub fn attach(lab: &Lab, servers: usize) -> Result<(), Failure> {
 }
 
 fn add_namespace(lab: &Lab, name: &str) -> Result<(), Failure> {
-    crate::lab::output(std::process::Command::new("ip").args([
-        "netns",
-        "add",
-        &lab.namespace(name),
-    ]))?;
-    lab.output(name, "ip", &["link", "set", "lo", "up"])?;
+    crate::lab::output(IP.command().args(["netns", "add", &lab.namespace(name)]))?;
+    lab.output(name, IP, &["link", "set", "lo", "up"])?;
     Ok(())
 }
 
@@ -91,7 +88,7 @@ fn add_namespace(lab: &Lab, name: &str) -> Result<(), Failure> {
 fn join(lab: &Lab, name: &str, address: &str, director: &str) -> Result<(), Failure> {
     add_namespace(lab, name)?;
     let theirs = lab.namespace(name);
-    let ip = |place: &str, args: &[&str]| lab.output(place, "ip", args).map(|_| ());
+    let ip = |place: &str, args: &[&str]| lab.output(place, IP, args).map(|_| ());
     ip(
         "director",
         &["link", "add", name, "type", "veth", "peer", "name", "eth0", "netns", &theirs],
@@ -106,7 +103,7 @@ fn join(lab: &Lab, name: &str, address: &str, director: &str) -> Result<(), Fail
 /// The client's sockets, seen from that namespace, that are not over yet: all, or those of one port.
 pub fn live_sockets(lab: &Lab, name: &str, client_port: Option<u16>) -> Result<usize, Failure> {
     let end = client_port.map_or(CLIENT.to_string(), |port| format!("{CLIENT}:{port}"));
-    let found = lab.output(name, "ss", &["-Htan", &format!("( src {end} or dst {end} )")])?;
+    let found = lab.output(name, SS, &["-Htan", &format!("( src {end} or dst {end} )")])?;
     Ok(found.lines().filter(|line| !line.starts_with("TIME-WAIT")).count())
 }
 

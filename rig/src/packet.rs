@@ -2,10 +2,10 @@
 
 use crate::lab::{output, Failure};
 use crate::network::{balanced, SERVER_PORT, VIRTUAL, VIRTUAL_PORT};
+use programs::TCPDUMP;
 use std::fmt;
 use std::hash::{Hash, Hasher};
 use std::path::Path;
-use std::process::Command;
 
 /// A packet. Two are equal when they are the same but for where and when they were seen: the kernel lowers a packet's
 /// time to live on its way, and nothing else.
@@ -81,7 +81,7 @@ pub fn server_of(end: &str) -> Option<usize> {
 /// Reads the packets of a file that tcpdump wrote.
 pub fn read(file: &Path) -> Result<Vec<Packet>, Failure> {
     // Sequence numbers as they are: relative ones would depend on what else is in the file.
-    let text = output(Command::new("tcpdump").args(["-n", "-v", "-tt", "-S", "-r"]).arg(file))?;
+    let text = output(TCPDUMP.command().args(["-n", "-v", "-tt", "-S", "-r"]).arg(file))?;
     let mut lines = text.lines();
     let mut packets = Vec::new();
     while let (Some(header), Some(segment)) = (lines.next(), lines.next()) {

@@ -2,6 +2,7 @@
 
 use crate::lab::{output, Failure, Lab};
 use crate::network::{balanced, direct, gateway, server, CLIENT, SERVER_PORT};
+use programs::{CP, INITDB, PG_CTL, PSQL, SETPRIV};
 use std::fs;
 use std::path::PathBuf;
 
@@ -45,7 +46,7 @@ impl Postgres {
         let from = template(lab)?;
         let (data, log) =
             (lab.run.join(format!("data{k}")), lab.run.join(format!("postgres{k}.log")));
-        output(lab.command(&server(k), "cp").arg("-a").args([&from, &data]))?;
+        output(lab.command(&server(k), CP).arg("-a").args([&from, &data]))?;
         let trusted = format!(
             "host all postgres {CLIENT}/32 trust\nhost all postgres {}/32 trust\n",
             gateway(k)
@@ -81,7 +82,7 @@ impl Postgres {
 
     /// Asks the replica over its direct address, from the director's namespace: rows, one to a line.
     pub fn ask(&self, sql: &str) -> Result<Vec<String>, Failure> {
-        let mut psql = self.lab.command("director", self.lab.postgres.join("psql"));
+        let mut psql = self.lab.command("director", PSQL);
         psql.args(["-X", "-A", "-t", "-q", "-v", "ON_ERROR_STOP=1", "-U", "postgres"]);
         psql.args(["-h", &direct(self.number), "-p", SERVER_PORT, "-d", "postgres", "-c", sql]);
         Ok(output(&mut psql)?.lines().map(String::from).collect())
@@ -101,8 +102,8 @@ impl Postgres {
     }
 
     fn control(&self, args: &[&str]) -> Result<(), Failure> {
-        let mut command = self.lab.command(&server(self.number), "setpriv");
-        command.args(AS_POSTGRES).arg(self.lab.postgres.join("pg_ctl"));
+        let mut command = self.lab.command(&server(self.number), SETPRIV);
+        command.args(AS_POSTGRES).arg(PG_CTL.name());
         command.args(["-w", "-s", "-t", "60", "-D"]).arg(&self.data).args(args);
         let done = output(&mut command);
         let log = || fs::read_to_string(&self.log).unwrap_or_default();
@@ -134,8 +135,8 @@ fn template(lab: &Lab) -> Result<PathBuf, Failure> {
     let path = lab.template.clone();
     if !path.exists() {
         // In a namespace, like all that runs for long: there rig/drill finds it.
-        let mut command = lab.command("director", "setpriv");
-        command.args(AS_POSTGRES).arg(lab.postgres.join("initdb")).arg("-D").arg(&path);
+        let mut command = lab.command("director", SETPRIV);
+        command.args(AS_POSTGRES).arg(INITDB.name()).arg("-D").arg(&path);
         command.args(["-U", "postgres", "-A", "trust", "--no-sync", "--wal-segsize=1"]);
         command.args(["--locale=C", "--encoding=UTF8"]);
         output(&mut command)?;

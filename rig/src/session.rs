@@ -2,6 +2,7 @@
 
 use crate::lab::{ensure, fail, Failure, Lab, Running};
 use crate::network::{self, balanced, VIRTUAL, VIRTUAL_PORT};
+use programs::PSQL;
 use std::io::{BufRead, BufReader, Read, Write};
 use std::process::{ChildStdin, Stdio};
 use std::sync::mpsc::{channel, Receiver, Sender};
@@ -35,7 +36,7 @@ pub struct Session {
 impl Session {
     /// Opens a session through the virtual address, and asks which replica answers.
     pub fn open(lab: &Lab) -> Result<Session, Failure> {
-        let mut command = lab.command("client", lab.postgres.join("psql"));
+        let mut command = lab.command("client", PSQL);
         command.args(["-X", "-A", "-t", "-q", "-v", "ON_ERROR_STOP=1", "-U", "postgres"]);
         command.args(["-h", VIRTUAL, "-p", VIRTUAL_PORT, "-d", "postgres"]);
         command.stdin(Stdio::piped()).stdout(Stdio::piped()).stderr(Stdio::piped());

@@ -1,6 +1,7 @@
 //! A running daemon, and what is said to it.
 
 use crate::link;
+use programs::KILL;
 use std::fs;
 use std::io::{BufRead, BufReader, ErrorKind, Read, Write};
 use std::os::unix::fs::PermissionsExt;
@@ -43,6 +44,11 @@ pub fn command(place: &Place, config: &str, device: &str, flags: &[&str]) -> Com
     command.args(["--config", &path, "--device", device, "--socket", &place.file("sock")]);
     command.args(flags).stdin(Stdio::null()).stdout(Stdio::piped()).stderr(Stdio::piped());
     command
+}
+
+/// The operator's command.
+pub fn control() -> Command {
+    Command::new(env!("CARGO_BIN_EXE_nidhaagufctl"))
 }
 
 /// A daemon that said it is ready, with its device up.
@@ -96,7 +102,7 @@ impl Daemon {
     /// Sends a signal by its name.
     pub fn signal(&self, name: &str) {
         let process = self.child.id().to_string();
-        let done = Command::new("kill").args(["-s", name, &process]).status().unwrap();
+        let done = KILL.command().args(["-s", name, &process]).status().unwrap();
         assert!(done.success());
     }
 
