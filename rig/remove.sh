@@ -34,7 +34,8 @@ remove_shared_memory() { # NUMBER
     for file in "$temporary"/nid"$1"_*/*/data*/postmaster.pid; do
         [ -e "$file" ] || continue
         mapfile -t lines <"$file"
-        segment=${lines[6]##* }
+        segment=${lines[6]-}
+        segment=${segment##* }
         [ -z "$segment" ] || ipcrm -m "$segment" || :
     done
 }

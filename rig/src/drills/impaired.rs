@@ -6,15 +6,16 @@
 //! and each one, and each answer to it, is a packet of the connection. How many there are is chance, so the book is kept from
 //! the packets.
 
-use crate::impairment::{Impaired, Impairment, Plan as Links};
+use super::service::Service;
+use crate::books::observation::Observation;
+use crate::lab::status::Standing;
+use crate::lab::REPLICAS;
 use crate::lab::{ensure, Failure, Lab};
-use crate::load::{Load, Plan};
-use crate::observed::Observed;
-use crate::payments::Client;
-use crate::relay::Rates;
-use crate::service::REPLICAS;
-use crate::session::Session;
-use crate::status::Standing;
+use crate::links::impairment::{Impaired, Impairment, Plan as Links};
+use crate::links::relay::Rates;
+use crate::load::payments::Client;
+use crate::load::pgbench::{Load, Plan};
+use crate::load::session::Session;
 use crate::timeline::Timeline;
 
 /// The replica that is drained.
@@ -43,7 +44,7 @@ const CROWD: Plan = Plan { name: "crowd", clients: 2, reconnect: true, rate: 20 
 /// Runs the drill; the seed decides what becomes of which packet.
 pub fn run(lab: &Lab, timeline: &Timeline, seed: u64) -> Result<(), Failure> {
     timeline.title("Packets are lost, duplicated and reordered on all links");
-    let mut observed = Observed::start(lab, timeline, CLOCK_SPEED)?;
+    let mut service = Service::observe(lab, timeline, CLOCK_SPEED)?;
     let impairment =
         Impairment::start(lab, REPLICAS, Links { seed, rates: RATES, dropping: DROPPING })?;
     let Rates { loss, duplicate, reorder } = RATES;
@@ -52,13 +53,13 @@ pub fn run(lab: &Lab, timeline: &Timeline, seed: u64) -> Result<(), Failure> {
          {} more at replica {}",
         DROPPING.1, DROPPING.0
     ));
-    observed.open_on_each(EACH)?;
-    let mut drill = Drill { timeline, observed };
+    service.open_on_each(EACH)?;
+    let mut drill = Drill { timeline, service };
     drill.go_on()?;
     drill.drain()?;
     let mut crowd = Load::start(lab, CROWD)?;
     drill.open_newcomers()?;
-    drill.observed.clients[..EACH * REPLICAS].iter_mut().try_for_each(Client::commit)?;
+    drill.service.clients[..EACH * REPLICAS].iter_mut().try_for_each(Client::commit)?;
     drill.go_on()?;
     drill.end_sessions_on_drained()?;
     drill.unplug(&mut crowd)?;
@@ -72,17 +73,17 @@ pub fn run(lab: &Lab, timeline: &Timeline, seed: u64) -> Result<(), Failure> {
 
 struct Drill<'a> {
     timeline: &'a Timeline,
-    observed: Observed<'a>,
+    service: Service<'a, Observation>,
 }
 
 impl Drill<'_> {
     /// Every session goes on on its replica, and reads a long answer.
     fn go_on(&mut self) -> Result<(), Failure> {
         for _ in 0..ROUNDS {
-            self.observed.work()?;
-            self.observed.look()?;
+            self.service.work()?;
+            self.service.look()?;
         }
-        let clients = &mut self.observed.clients;
+        let clients = &mut self.service.clients;
         clients.iter_mut().try_for_each(|client| read_long_answer(&mut client.session))?;
         self.timeline.tell(format!(
             "{ROUNDS} rounds of work in {} sessions, and an answer of {ROWS} rows in each: all right, from their own replica",
@@ -92,8 +93,8 @@ impl Drill<'_> {
     }
 
     fn drain(&mut self) -> Result<(), Failure> {
-        self.observed.director.drain(DRAINED)?;
-        let row = self.observed.look()?.rows.swap_remove(DRAINED);
+        self.service.director.drain(DRAINED)?;
+        let row = self.service.look()?.rows.swap_remove(DRAINED);
         ensure(
             (row.weight, row.standing) == (0, Standing::Draining),
             format!("after the drain: {row:?}"),
@@ -106,7 +107,7 @@ impl Drill<'_> {
 
     fn open_newcomers(&mut self) -> Result<(), Failure> {
         for _ in 0..NEWCOMERS {
-            let server = self.observed.open()?;
+            let server = self.service.open()?;
             ensure(
                 server != DRAINED,
                 format!("a new session came to the drained replica {DRAINED}"),
@@ -119,14 +120,14 @@ impl Drill<'_> {
 
     /// Ends the sessions on the drained replica, and waits for zero.
     fn end_sessions_on_drained(&mut self) -> Result<(), Failure> {
-        for client in self.observed.take_clients_of(DRAINED) {
-            self.observed.end(client)?;
+        for client in self.service.take_clients_of(DRAINED) {
+            self.service.end(client)?;
         }
         self.timeline.tell(format!("the sessions on replica {DRAINED} have ended"));
-        self.observed.wait_until("the drained replica reads zero", |status| {
+        self.service.wait_until("the drained replica reads zero", |status| {
             status.rows[DRAINED].connections == 0
         })?;
-        let payments = self.observed.check_payments(DRAINED)?;
+        let payments = self.service.check_payments(DRAINED)?;
         let words = format!(
             "replica {DRAINED} reads zero, and has all {payments} payments of its sessions"
         );
@@ -135,10 +136,10 @@ impl Drill<'_> {
     }
 
     fn unplug(&mut self, crowd: &mut Load) -> Result<(), Failure> {
-        let row = self.observed.look()?.rows.swap_remove(DRAINED);
+        let row = self.service.look()?.rows.swap_remove(DRAINED);
         ensure(row.standing == Standing::MayBeUnplugged, format!("at zero: {row:?}"))?;
-        self.observed.replicas[DRAINED].stop()?;
-        self.observed.work()?;
+        self.service.replicas[DRAINED].stop()?;
+        self.service.work()?;
         crowd.check()?;
         self.timeline.tell(format!("replica {DRAINED} is stopped, and nobody notices"));
         Ok(())
@@ -146,18 +147,19 @@ impl Drill<'_> {
 
     /// Ends all sessions, and looks at what the packets say.
     fn close(mut self, impairment: Impairment) -> Result<(), Failure> {
-        self.observed.end_all()?;
+        let clock = self.service.end_all()?;
+        self.timeline.tell(format!("every replica reads 0 at clock {clock}"));
         for server in (0..REPLICAS).filter(|&server| server != DRAINED) {
-            self.observed.check_payments(server)?;
+            self.service.check_payments(server)?;
         }
         tell_links(self.timeline, impairment.stop()?)?;
-        let ending = self.observed.finish(LEAST_PACKETS)?;
-        let opened = ending.book.opened(DRAINED);
+        let verdict = self.service.judge(LEAST_PACKETS)?;
+        let opened = verdict.book.opened(DRAINED);
         ensure(
             opened == EACH,
             format!("{opened} connections were opened on replica {DRAINED}, not {EACH}"),
         )?;
-        ending.tell_zero(DRAINED, self.timeline)
+        verdict.tell_zero(DRAINED, self.timeline)
     }
 }
 

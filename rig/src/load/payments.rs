@@ -1,8 +1,8 @@
 //! A client that makes payments in one session, and looks after each whether the row is there and which replica answers.
 
+use crate::lab::network::balanced;
 use crate::lab::{fail, Failure, Lab};
-use crate::network::balanced;
-use crate::session::Session;
+use crate::load::session::Session;
 
 /// Payments of one client have numbers from its own range of this size.
 const RANGE: u32 = 1_000_000;

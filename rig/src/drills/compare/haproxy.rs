@@ -1,7 +1,7 @@
 //! HAProxy in TCP mode at the director: it ends the client's connection and makes one of its own to a replica.
 
+use crate::lab::network::{direct, SERVER_PORT, VIRTUAL_PORT};
 use crate::lab::{ensure, wait_for, Failure, Lab, Running};
-use crate::network::{direct, SERVER_PORT, VIRTUAL_PORT};
 use programs::{HAPROXY, IP, SS};
 use std::fmt::Write;
 use std::fs;

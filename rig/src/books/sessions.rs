@@ -1,14 +1,13 @@
-//! The drill's own book: what each server's count must be, from what clients and replicas know, without the director's table.
+//! The book of the sessions: what each server's count must be, from what clients and replicas know.
 //!
 //! An open connection counts. One that both sides finished counts until the director's clock is 120 past its last packet.
 //! The moment of that packet is known only as lying between two readings of the clock, so in between a count may be one or
 //! the other; outside it is exact.
 
+use crate::books::{Book, FINISHED};
+use crate::lab::director::Director;
+use crate::lab::status::Status;
 use crate::lab::{ensure, Failure};
-use crate::status::Status;
-
-/// How long a finished connection counts, in seconds of the director's clock.
-pub const FINISHED: u32 = 120;
 
 /// A connection that the book knows.
 #[derive(Clone, Copy, Debug)]
@@ -43,24 +42,34 @@ pub struct Bounds {
 
 /// The book.
 #[derive(Clone, Debug, Default)]
-pub struct Book {
+pub struct SessionBook {
     entries: Vec<Entry>,
     crowds: Vec<Crowd>,
 }
 
-impl Book {
-    /// A connection of the client's port is open, on that server.
-    pub fn opened(&mut self, server: usize, port: u16) {
+impl Book for SessionBook {
+    fn look(&mut self, director: &Director) -> Result<Status, Failure> {
+        let status = director.status()?;
+        self.check(&status)?;
+        Ok(status)
+    }
+
+    fn opened(&mut self, server: usize, port: u16) {
         self.entries.push(Entry { server, port, ended: None });
     }
 
-    /// The open connection of that port has ended; its last packet came between these two clocks.
-    pub fn ended(&mut self, port: u16, before: u32, after: u32) {
+    fn ended(&mut self, port: u16, before: u32, after: u32) {
         let open =
             self.entries.iter_mut().find(|entry| entry.port == port && entry.ended.is_none());
         open.expect("the connection was opened").ended = Some(Last { before, after });
     }
 
+    fn close(&mut self) -> Result<(), Failure> {
+        Ok(())
+    }
+}
+
+impl SessionBook {
     /// From now on connections come and go on these servers.
     pub fn crowd_came(&mut self, servers: Vec<usize>) {
         self.crowds.push(Crowd { servers, ended: None });
@@ -114,17 +123,9 @@ fn within(clock: u32, last: u32) -> bool {
 #[cfg(test)]
 mod tests {
     use super::*;
-    use crate::status::{Row, Standing};
 
     fn status(clock: u32, counts: [u32; 2]) -> Status {
-        let row = |number: usize| Row {
-            number,
-            address: String::new(),
-            weight: 1,
-            connections: counts[number],
-            standing: Standing::InService,
-        };
-        Status { used: counts.iter().sum(), slots: 4096, clock, rows: vec![row(0), row(1)] }
+        Status::of_counts(clock, &counts)
     }
 
     fn bounds(sure: u32, possible: u32) -> Bounds {
@@ -133,7 +134,7 @@ mod tests {
 
     #[test]
     fn a_finished_connection_counts_until_120_past_its_last_packet() {
-        let mut book = Book::default();
+        let mut book = SessionBook::default();
         book.opened(0, 40000);
         book.opened(0, 40001);
         book.opened(1, 40002);
@@ -148,7 +149,7 @@ mod tests {
 
     #[test]
     fn early_and_late_counts_are_refused() {
-        let mut book = Book::default();
+        let mut book = SessionBook::default();
         book.opened(0, 40000);
         assert!(book.check(&status(50, [1, 0])).is_ok());
         assert!(book.check(&status(50, [0, 0])).is_err(), "an open session must count");
@@ -162,7 +163,7 @@ mod tests {
 
     #[test]
     fn a_crowd_hides_the_upper_bound_until_it_is_struck() {
-        let mut book = Book::default();
+        let mut book = SessionBook::default();
         book.opened(1, 40000);
         book.crowd_came(vec![1]);
         assert_eq!(book.bounds(1, 10), Bounds { sure: 1, possible: None });
@@ -177,7 +178,7 @@ mod tests {
 
     #[test]
     fn a_port_may_come_again() {
-        let mut book = Book::default();
+        let mut book = SessionBook::default();
         book.opened(0, 40000);
         book.ended(40000, 10, 10);
         book.opened(1, 40000);
@@ -190,6 +191,6 @@ mod tests {
     fn used_slots_are_the_sum_of_the_counts() {
         let mut wrong = status(50, [0, 0]);
         wrong.used = 1;
-        assert!(Book::default().check(&wrong).is_err());
+        assert!(SessionBook::default().check(&wrong).is_err());
     }
 }

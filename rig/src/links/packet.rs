@@ -1,7 +1,7 @@
 //! A TCP packet as tcpdump tells it, from a file that it captured.
 
+use crate::lab::network::{balanced, SERVER_PORT, VIRTUAL, VIRTUAL_PORT};
 use crate::lab::{output, Failure};
-use crate::network::{balanced, SERVER_PORT, VIRTUAL, VIRTUAL_PORT};
 use programs::TCPDUMP;
 use std::fmt;
 use std::hash::{Hash, Hasher};

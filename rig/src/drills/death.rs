@@ -3,12 +3,13 @@
 //! The director can't know. The sessions of that replica hang until their clients' TCP gives up; their connections count until
 //! 900 s of the director's clock after the last segment that the clients sent again, and then no longer.
 
+use super::service::{counts, Service};
+use crate::books::observation::Observation;
+use crate::lab::network::{gateway, server};
+use crate::lab::status::Standing;
+use crate::lab::REPLICAS;
 use crate::lab::{ensure, wait_for, Failure, Lab};
-use crate::network::{gateway, server};
-use crate::observed::Observed;
-use crate::payments::Client;
-use crate::service::REPLICAS;
-use crate::status::Standing;
+use crate::load::payments::Client;
 use crate::timeline::Timeline;
 use programs::{IP, SYSCTL};
 use std::thread::JoinHandle;
@@ -34,10 +35,10 @@ const PATIENCE: Duration = Duration::from_secs(60);
 /// Runs the drill.
 pub fn run(lab: &Lab, timeline: &Timeline) -> Result<(), Failure> {
     timeline.title("A replica dies without a word");
-    let mut observed = Observed::start(lab, timeline, CLOCK_SPEED)?;
+    let mut service = Service::observe(lab, timeline, CLOCK_SPEED)?;
     lab.output("client", SYSCTL, &["-q", "-w", RETRIES])?;
-    observed.open_on_each(EACH)?;
-    let mut drill = Drill { lab, timeline, observed };
+    service.open_on_each(EACH)?;
+    let mut drill = Drill { lab, timeline, service };
     let dying = drill.cut_link()?;
     drill.others_go_on(&dying)?;
     drill.drain()?;
@@ -53,7 +54,7 @@ type Hanging = JoinHandle<Result<(), Failure>>;
 struct Drill<'a> {
     lab: &'a Lab,
     timeline: &'a Timeline,
-    observed: Observed<'a>,
+    service: Service<'a, Observation>,
 }
 
 impl Drill<'_> {
@@ -61,32 +62,32 @@ impl Drill<'_> {
     fn cut_link(&mut self) -> Result<Vec<Hanging>, Failure> {
         self.lab.output(&server(DEAD), IP, &["link", "set", "eth0", "down"])?;
         self.timeline.tell(format!("the link of replica {DEAD} is cut: no FIN, no RST"));
-        let dying = self.observed.take_clients_of(DEAD);
+        let dying = self.service.take_clients_of(DEAD);
         Ok(dying.into_iter().map(|mut client| std::thread::spawn(move || client.look())).collect())
     }
 
     /// The sessions on the other replicas don't notice; those on the dead one hang, and still count.
     fn others_go_on(&mut self, dying: &[Hanging]) -> Result<(), Failure> {
         let mut longest = Duration::ZERO;
-        self.observed.clients.iter_mut().try_for_each(Client::commit)?;
+        self.service.clients.iter_mut().try_for_each(Client::commit)?;
         for _ in 0..ROUNDS {
-            for client in &mut self.observed.clients {
+            for client in &mut self.service.clients {
                 let begin = Instant::now();
                 client.work()?;
                 longest = longest.max(begin.elapsed());
             }
-            self.observed.look()?;
+            self.service.look()?;
         }
         let hanging = dying.iter().filter(|session| !session.is_finished()).count();
         ensure(
             hanging == EACH,
             format!("{hanging} sessions of the dead replica hang, not {EACH}"),
         )?;
-        let row = self.observed.look()?.rows.swap_remove(DEAD);
+        let row = self.service.look()?.rows.swap_remove(DEAD);
         ensure(row.connections as usize == EACH, format!("the dead replica fell early: {row:?}"))?;
         self.timeline.tell(format!(
             "{} sessions on the others make {ROUNDS} payments each, the longest in {} ms; its own {hanging} hang, and count",
-            self.observed.clients.len(),
+            self.service.clients.len(),
             longest.as_millis()
         ));
         Ok(())
@@ -94,18 +95,17 @@ impl Drill<'_> {
 
     /// The drain keeps new sessions off the dead replica, also where it has the fewest.
     fn drain(&mut self) -> Result<(), Failure> {
-        self.observed.director.drain(DEAD)?;
+        self.service.director.drain(DEAD)?;
         for _ in 0..NEWCOMERS {
-            let server = self.observed.open()?;
+            let server = self.service.open()?;
             ensure(server != DEAD, format!("a new session came to the dead replica {DEAD}"))?;
         }
-        let status = self.observed.look()?;
-        let counts: Vec<u32> = status.rows.iter().map(|row| row.connections).collect();
-        let fewest = (0..REPLICAS).all(|k| k == DEAD || counts[k] > counts[DEAD]);
-        ensure(fewest, format!("the dead replica hasn't the fewest connections: {counts:?}"))?;
-        let words = format!(
-            "replica {DEAD} is drained: {NEWCOMERS} new sessions go elsewhere, counts {counts:?}"
-        );
+        let status = self.service.look()?;
+        let (counts, dead) = (counts(&status), status.rows[DEAD].connections);
+        let fewest = status.rows.iter().all(|row| row.number == DEAD || row.connections > dead);
+        ensure(fewest, format!("the dead replica hasn't the fewest connections: {counts}"))?;
+        let words =
+            format!("replica {DEAD} is drained: {NEWCOMERS} new sessions go elsewhere, {counts}");
         self.timeline.tell(words);
         Ok(())
     }
@@ -113,8 +113,8 @@ impl Drill<'_> {
     /// The clients of the dead replica end by themselves, when their TCP gives up.
     fn clients_give_up(&mut self, dying: Vec<Hanging>) -> Result<(), Failure> {
         wait_for("the sessions of the dead replica are given up", PATIENCE, || {
-            self.observed.work()?;
-            let count = self.observed.look()?.rows[DEAD].connections as usize;
+            self.service.work()?;
+            let count = self.service.look()?.rows[DEAD].connections as usize;
             let over = dying.iter().all(Hanging::is_finished);
             ensure(over || count == EACH, format!("the dead replica fell early, to {count}"))?;
             Ok(over.then_some(()))
@@ -137,9 +137,9 @@ impl Drill<'_> {
     fn wait_for_zero(&mut self) -> Result<(), Failure> {
         let row = wait_for("the dead replica reads zero", PATIENCE, || {
             // One session at a time, so that the count is read often.
-            self.observed.clients.rotate_left(1);
-            self.observed.clients[0].work()?;
-            let row = self.observed.look()?.rows.swap_remove(DEAD);
+            self.service.clients.rotate_left(1);
+            self.service.clients[0].work()?;
+            let row = self.service.look()?.rows.swap_remove(DEAD);
             Ok((row.connections == 0).then_some(row))
         })?;
         ensure(row.standing == Standing::MayBeUnplugged, format!("at zero: {row:?}"))?;
@@ -156,10 +156,10 @@ impl Drill<'_> {
         ip(&["link", "set", "eth0", "up"])?;
         // The kernel took the route away with the link.
         ip(&["route", "replace", "default", "via", &gateway(DEAD)])?;
-        self.observed.director.set_weight(DEAD, 1)?;
-        let server = self.observed.open()?;
+        self.service.director.set_weight(DEAD, 1)?;
+        let server = self.service.open()?;
         ensure(server == DEAD, format!("the next session went to replica {server}"))?;
-        self.observed.work()?;
+        self.service.work()?;
         let words = format!(
             "the link is up and the weight is 1 again: the next session is on replica {DEAD}"
         );
@@ -169,11 +169,12 @@ impl Drill<'_> {
 
     /// Ends all sessions, and looks at what the packets say.
     fn close(mut self) -> Result<(), Failure> {
-        self.observed.end_all()?;
+        let clock = self.service.end_all()?;
+        self.timeline.tell(format!("every replica reads 0 at clock {clock}"));
         let payments: Result<Vec<u32>, Failure> =
-            (0..REPLICAS).map(|k| self.observed.check_payments(k)).collect();
+            (0..REPLICAS).map(|k| self.service.check_payments(k)).collect();
         self.timeline
             .tell(format!("all committed payments are there, on replicas 0 to 2: {:?}", payments?));
-        self.observed.finish(LEAST_PACKETS)?.tell_zero(DEAD, self.timeline)
+        self.service.judge(LEAST_PACKETS)?.tell_zero(DEAD, self.timeline)
     }
 }

@@ -1,8 +1,8 @@
 //! The live director in its namespace: `nidhaagufd`, and what `nidhaagufctl` says of it.
 
+use crate::lab::network::{balanced, DEVICE, SERVER_PORT, VIRTUAL, VIRTUAL_PORT};
+use crate::lab::status::Status;
 use crate::lab::{ensure, fail, output, Failure, Lab, Running, SIGTERM};
-use crate::network::{balanced, DEVICE, SERVER_PORT, VIRTUAL, VIRTUAL_PORT};
-use crate::status::Status;
 use programs::{NIDHAAGUFCTL, NIDHAAGUFD};
 use std::fmt::Write;
 use std::fs;
@@ -63,9 +63,7 @@ impl Director {
         });
         let log = || fs::read_to_string(lab.run.join("director.log")).unwrap_or_default();
         match receiver.recv_timeout(PATIENCE) {
-            Ok(line) if line.starts_with("ready: ") => {
-                Ok(Director { running, socket })
-            }
+            Ok(line) if line.starts_with("ready: ") => Ok(Director { running, socket }),
             Ok(line) => fail(format!("the director said '{line}' and not that it is ready")),
             Err(_) => fail(format!("the director didn't get ready: {}", log().trim())),
         }

@@ -1,7 +1,7 @@
 //! A client's session: a real `psql` through the virtual address, kept open.
 
+use crate::lab::network::{self, balanced, VIRTUAL, VIRTUAL_PORT};
 use crate::lab::{ensure, fail, Failure, Lab, Running};
-use crate::network::{self, balanced, VIRTUAL, VIRTUAL_PORT};
 use programs::PSQL;
 use std::io::{BufRead, BufReader, Read, Write};
 use std::process::{ChildStdin, Stdio};

@@ -1,8 +1,8 @@
 //! Looks at the director's table, taken all the time, and what they tell of its clock.
 
-use crate::director::Director;
+use crate::lab::director::Director;
+use crate::lab::status::Status;
 use crate::lab::{ensure, Failure};
-use crate::status::Status;
 use std::sync::mpsc::{channel, RecvTimeoutError, Sender};
 use std::sync::Arc;
 use std::thread::JoinHandle;

@@ -1,16 +1,18 @@
 //! Throughput beside what a user would pick instead: pgbench directly, through the kernel's address translation, through HAProxy
 //! and through the director, over the same links and replicas, in turn.
 
-use crate::book::FINISHED;
-use crate::director::{Director, Options};
-use crate::haproxy::{self, Haproxy};
-use crate::lab::{ensure, output, Failure, Lab};
-use crate::load::report;
-use crate::nat::{self, Nat};
-use crate::network::{self, direct, SERVER_PORT, VIRTUAL, VIRTUAL_PORT};
-use crate::postgres::Postgres;
-use crate::service::REPLICAS;
+mod haproxy;
+mod nat;
+
+use crate::books::FINISHED;
+use crate::lab::director::{Director, Options};
+use crate::lab::network::{self, direct, SERVER_PORT, VIRTUAL, VIRTUAL_PORT};
+use crate::lab::postgres::Postgres;
+use crate::lab::{ensure, output, Failure, Lab, REPLICAS};
+use crate::load::pgbench::report;
 use crate::timeline::Timeline;
+use haproxy::Haproxy;
+use nat::Nat;
 use programs::{IP, PGBENCH};
 use std::fs;
 use std::time::Instant;

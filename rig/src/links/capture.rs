@@ -1,9 +1,9 @@
 //! Captures by tcpdump at the director: what passes its own device, and what leaves for the client and for each server.
 //! Afterwards every checksum is verified, and what left is held against what the director wrote.
 
+use crate::lab::network::{balanced, server, DEVICE, SERVER_PORT, VIRTUAL, VIRTUAL_PORT};
 use crate::lab::{ensure, fail, wait_for, Failure, Lab, Running, SIGTERM};
-use crate::network::{balanced, server, DEVICE, SERVER_PORT, VIRTUAL, VIRTUAL_PORT};
-use crate::packet::{self, Packet};
+use crate::links::packet::{self, Packet};
 use programs::TCPDUMP;
 use std::collections::HashSet;
 use std::fs;

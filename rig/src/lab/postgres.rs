@@ -1,7 +1,7 @@
 //! PostgreSQL at a server: a replica with its own name and an empty table of payments.
 
+use crate::lab::network::{balanced, direct, gateway, server, CLIENT, SERVER_PORT};
 use crate::lab::{output, Failure, Lab};
-use crate::network::{balanced, direct, gateway, server, CLIENT, SERVER_PORT};
 use programs::{CP, INITDB, PG_CTL, PSQL, SETPRIV};
 use std::fs;
 use std::path::PathBuf;

@@ -89,6 +89,19 @@ fn row(line: &str) -> Option<Row> {
 }
 
 #[cfg(test)]
+impl Status {
+    /// For tests: servers in service with these counts.
+    pub fn of_counts(clock: u32, counts: &[u32]) -> Status {
+        let row = |(number, &connections)| {
+            let (address, weight, standing) = (String::new(), 1, Standing::InService);
+            Row { number, address, weight, connections, standing }
+        };
+        let rows = counts.iter().enumerate().map(row).collect();
+        Status { used: counts.iter().sum(), slots: 4096, clock, rows }
+    }
+}
+
+#[cfg(test)]
 mod tests {
     use super::*;
 

@@ -4,9 +4,9 @@
 //! The kernel routes by incoming interface. What comes from the client, from a server's balanced address or from the
 //! director goes to the relay's device. What comes from the relay goes on as it would have gone without it.
 
+use crate::lab::network::{balanced, server, CLIENT, DEVICE, VIRTUAL};
 use crate::lab::{ensure, wait_for, Failure, Lab, Running, SIGTERM};
-use crate::network::{balanced, server, CLIENT, DEVICE, VIRTUAL};
-use crate::relay::{Counts, Rates};
+use crate::links::relay::{Counts, Rates};
 use programs::{IMPAIR, IP, NFT};
 use std::fs;
 use std::path::PathBuf;

@@ -1,7 +1,7 @@
 //! Load by pgbench through the virtual address.
 
+use crate::lab::network::{VIRTUAL, VIRTUAL_PORT};
 use crate::lab::{ensure, Failure, Lab, Running, SIGALRM};
-use crate::network::{VIRTUAL, VIRTUAL_PORT};
 use programs::PGBENCH;
 use std::fs;
 use std::path::PathBuf;

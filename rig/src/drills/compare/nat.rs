@@ -1,7 +1,7 @@
 //! What the kernel does by itself: address translation by nftables, one replica after another.
 
+use crate::lab::network::{direct, SERVER_PORT, VIRTUAL_PORT};
 use crate::lab::{Failure, Lab};
-use crate::network::{direct, SERVER_PORT, VIRTUAL_PORT};
 use programs::NFT;
 use std::fs;
 
