@@ -59,7 +59,7 @@ install_programs() { # WHO..
     install_packages "${missing[@]}" || return 1
     mapfile -t missing < <(missing_packages "$@")
     if [ ${#missing[@]} -gt 0 ]; then
-        echo "the packages ${missing[*]} are installed, but lack a program that rig/programs.txt says they have" >&2
+        echo "installed, and rig/programs.txt names a program that is not in it: ${missing[*]}" >&2
         return 1
     fi
 }
@@ -91,12 +91,14 @@ install_packages() ( # PACKAGE..
 )
 
 # From here on nothing is on the path but what these start. So a program that the table lacks is found on every machine.
+# (Not by links: some programs look beside themselves for others.)
 only_programs_of() { # DIRECTORY to make, WHO..
     local directory=$1 program package
     shift
     mkdir "$directory"
     while read -r program package; do
-        ln -s "$(path_of "$program")" "$directory/$program"
+        printf '#!/bin/sh\nexec %q "$@"\n' "$(path_of "$program")" >"$directory/$program"
     done < <(programs_of "$@")
+    chmod 755 "$directory"/*
     PATH=$directory
 }

@@ -4,7 +4,7 @@
 #![forbid(unsafe_code)]
 #![warn(missing_docs)]
 
-use std::process::Command;
+use std::process::{Command, Output};
 
 /// The table: a program to a line, its package, and who starts it.
 pub const TABLE: &str = include_str!("../../../rig/programs.txt");
@@ -58,9 +58,23 @@ impl Program {
         self.0
     }
 
+    /// The Debian package that has it.
+    pub fn package(self) -> &'static str {
+        let mut lines = TABLE.lines().map(str::split_whitespace);
+        let line = lines.find(|line| line.clone().next() == Some(self.0));
+        line.and_then(|mut words| words.nth(1)).expect("it is in the table")
+    }
+
     /// A command that starts it.
     pub fn command(self) -> Command {
         Command::new(self.0)
+    }
+
+    /// Runs it to its end. For tests: where it is missing, they fail with the package that has it.
+    pub fn run(self, words: &[&str]) -> Output {
+        self.command().args(words).output().unwrap_or_else(|error| {
+            panic!("{}, of Debian's package {}: {error}", self.0, self.package())
+        })
     }
 }
 
@@ -90,7 +104,7 @@ const fn is_word_at(table: &[u8], at: usize, word: &[u8]) -> bool {
 
 #[cfg(test)]
 mod tests {
-    use super::has_line;
+    use super::{has_line, IP, NIDHAAGUFD};
 
     #[test]
     fn words_are_found_at_the_beginning_of_a_line_alone() {
@@ -101,5 +115,10 @@ mod tests {
         for other in ["i", "ips", "iproute2", "drills", "tests", "s", "q", "nft"] {
             assert!(!has(other), "{other}");
         }
+    }
+
+    #[test]
+    fn packages_are_told() {
+        assert_eq!((IP.package(), NIDHAAGUFD.package()), ("iproute2", "-"));
     }
 }

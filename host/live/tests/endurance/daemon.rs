@@ -102,8 +102,7 @@ impl Daemon {
     /// Sends a signal by its name.
     pub fn signal(&self, name: &str) {
         let process = self.child.id().to_string();
-        let done = KILL.command().args(["-s", name, &process]).status().unwrap();
-        assert!(done.success());
+        assert!(KILL.run(&["-s", name, &process]).status.success());
     }
 
     /// Waits for its end.

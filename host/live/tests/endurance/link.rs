@@ -63,7 +63,7 @@ pub fn say(line: &str) {
 
 /// Runs an `ip` command, which must succeed.
 pub fn ip(words: &str) {
-    let output = IP.command().args(words.split(' ')).output().unwrap();
+    let output = IP.run(&words.split(' ').collect::<Vec<_>>());
     assert!(output.status.success(), "ip {words}: {}", String::from_utf8_lossy(&output.stderr));
 }
 
