@@ -31,7 +31,7 @@ end_processes_of() { # NUMBER
 # A PostgreSQL that was killed leaves a segment of shared memory, whose number is in the seventh line of its lock file.
 remove_shared_memory() { # NUMBER
     local file lines segment
-    for file in "$temporary"/nid"$1"_*/*/data*/postmaster.pid; do
+    for file in "$temporary"/nid"$1"_*/{template,*/data*}/postmaster.pid; do
         [ -e "$file" ] || continue
         mapfile -t lines <"$file"
         segment=${lines[6]-}

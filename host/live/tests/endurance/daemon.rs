@@ -68,9 +68,10 @@ impl Daemon {
             let output = child.wait_with_output().unwrap();
             panic!("not ready: {ready:?} {}", String::from_utf8_lossy(&output.stderr));
         }
-        link::ip("link set nid0 up");
         child.stdout = Some(out.into_inner());
-        Daemon { child, socket: place.file("sock"), ready }
+        let daemon = Daemon { child, socket: place.file("sock"), ready };
+        link::ip("link set nid0 up");
+        daemon
     }
 
     pub fn connect(&self) -> UnixStream {
