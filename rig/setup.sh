@@ -15,10 +15,11 @@ quietly() {
     return $result
 }
 
-# The library's archive, proved, and the programs that cargo is asked for. What is up to date is for rt and cargo to decide.
+# The library's archive, proved, and the programs that cargo is asked for. What is up to date is for rt and cargo to decide; the
+# environment may name another archive and another place for what is built, which would not be these.
 build() { # CARGO'S ARGUMENTS
     quietly rt staticlib nidhaaguf
-    (cd host && quietly cargo build --offline "$@")
+    (cd host && quietly env -u NIDHAAGUF_LIB cargo build --offline --target-dir target "$@")
 }
 
 # The programs that these start, each with its package.
