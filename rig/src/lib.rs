@@ -1,26 +1,12 @@
 //! The rig: drills with the live director before real PostgreSQL servers, in network namespaces of their own.
+//!
+//! Each part uses those before it: the laboratory, its links, the load, the books of what the counts must be, the drills.
 
-pub mod book;
-pub mod capture;
-pub mod compare;
-pub mod death;
-pub mod director;
-pub mod drain;
-pub mod haproxy;
-pub mod impaired;
-pub mod impairment;
 pub mod lab;
+pub mod links;
 pub mod load;
-pub mod looks;
-pub mod nat;
-pub mod network;
-pub mod observed;
-pub mod packet;
-pub mod packet_book;
-pub mod payments;
-pub mod postgres;
-pub mod relay;
-pub mod service;
-pub mod session;
-pub mod status;
 pub mod timeline;
+
+pub mod books;
+
+pub mod drills;

@@ -1,9 +1,9 @@
 //! Runs a drill in the laboratory that `rig/drill` has made.
 
-use rig::drain::{self, Pace};
+use rig::drills::drain::{self, Pace};
+use rig::drills::{compare, death, impaired};
 use rig::lab::{fail, Failure, Lab};
 use rig::timeline::Timeline;
-use rig::{compare, death, impaired};
 use std::process::ExitCode;
 
 const USAGE: &str = "usage: rig drain [--short] | impaired [SEED] | death | all | compare";

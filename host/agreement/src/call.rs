@@ -1,6 +1,7 @@
 //! A call with its arguments, and what is told of it.
 
 use crate::world::World;
+use nidhaaguf::Refusal;
 use reference::book;
 use reference::{Answer, Change, Server, Service, PLACES};
 use std::fmt;
@@ -98,8 +99,8 @@ impl Told {
             (0, _, 1) => Answer::Passed(self.number, Change::Opened),
             (0, _, 2) => Answer::Passed(self.number, Change::Kept),
             (0, _, 3) => Answer::Passed(self.number, Change::Ended),
-            (refusal @ 1..=15, ..) => Answer::Refused(refusal as u8),
-            _ => return None,
+            (0, ..) => return None,
+            (refusal, ..) => Answer::Refused(Refusal::of_number(refusal)?.number() as u8),
         };
         // numbers that should be 0 must be
         (Told::of(answer) == self).then_some(answer)

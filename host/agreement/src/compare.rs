@@ -4,9 +4,10 @@ use crate::call::{Call, Told};
 use crate::lent::Lent;
 use crate::sides::{Reference, Side};
 use crate::world::World;
+use nidhaaguf::Refusal;
 use reference::book::{self, Book};
 use reference::data::UDP;
-use reference::{packets, Answer, State};
+use reference::{packets, refusal, Answer, State};
 
 /// What a call has left.
 #[derive(Debug, PartialEq, Eq)]
@@ -39,19 +40,37 @@ pub fn step(
     let packet = left.packet.ok_or("both have written past the packet")?;
     let row = left.row.ok_or("both have written past the row")?;
     let answer = left.told.answer(call).ok_or("no such answer to this call")?;
+    if let Some(refusal) = Refusal::of_number(left.told.refusal) {
+        check_refused(call, world, refusal, &left.state, &row, &packet)?;
+    }
     if matches!(answer, Answer::Passed(..)) {
         sums_verify(call.packet(), &packet)?;
     }
-    let row = match call.keeps_row(left.told) {
-        true => row,
-        false if row == call.row(world) => world.row.clone(),
-        false => return Err("a refused setup has written to its row".into()),
-    };
+    let row = if call.keeps_row(left.told) { row } else { world.row.clone() };
     let after = World { state: left.state, row };
     if let Some(book) = book {
         check_book(book, call, answer, &packet, &after)?;
     }
     Ok(Stepped { told: left.told, packet, world: after })
+}
+
+/// A refused call leaves state and row as they were, or as a tick at its clock leaves them; and the packet as it was.
+fn check_refused(
+    call: &Call,
+    world: &World,
+    refusal: Refusal,
+    state: &State,
+    row: &[u32],
+    packet: &[u8],
+) -> Result<(), String> {
+    let (mut wanted, mut wanted_row) = (world.state, call.row(world));
+    if let (true, Some(clock)) = (refusal.keeps_clock(), call.clock()) {
+        Reference.make(&Call::Tick { clock }, &mut wanted, &mut wanted_row, &mut []);
+    }
+    match *state == wanted && row == wanted_row && packet == call.packet() {
+        true => Ok(()),
+        false => Err(format!("refused, and changed more than it may: {refusal}")),
+    }
 }
 
 /// Demand 3, and that a state which an accepted setup and calls have made never receives 15.
@@ -62,7 +81,7 @@ fn check_book(
     packet: &[u8],
     after: &World,
 ) -> Result<(), String> {
-    if book.settings.is_some() && answer == Answer::Refused(15) {
+    if book.settings.is_some() && answer == Answer::Refused(refusal::UNSOUND) {
         return Err("15 in a list that began with an accepted setup".into());
     }
     let checked = book::check(book, call.for_book(), answer, packet, &after.counts());

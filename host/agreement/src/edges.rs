@@ -2,6 +2,7 @@
 
 use crate::call::{Call, Told};
 use crate::world::World;
+use nidhaaguf::Refusal;
 use reference::connection::idle_limit;
 use reference::data::UDP;
 use std::fmt;
@@ -51,10 +52,10 @@ const EDGES: [Edge; 38] = [
     ("opened, weights 0 and 65,535", |m| m.told.change == 1 && m.has_both_weights()),
     ("passed, one slot", |m| m.passed() && m.before.slots() == 1),
     ("passed, 4,096 slots", |m| m.passed() && m.before.slots() == 4_096),
-    ("table of 4,096 full", |m| m.told.refusal == 13 && m.before.slots() == 4_096),
+    ("table of 4,096 full", |m| m.is_full() && m.before.slots() == 4_096),
     ("passed, one server", |m| m.passed() && m.before.state.service.servers == 1),
     ("passed, 64 servers", |m| m.passed() && m.before.state.service.servers == 64),
-    ("table full, all weights 0", |m| m.told.refusal == 13 && m.is_weightless()),
+    ("table full, all weights 0", |m| m.is_full() && m.is_weightless()),
     ("weight set to itself", |m| m.sets_equal_weight()),
 ];
 
@@ -67,8 +68,16 @@ impl Moment<'_> {
         self.told.change == 1 && self.before.state.service.scheduler == scheduler
     }
 
+    fn refusal(&self) -> Option<Refusal> {
+        Refusal::of_number(self.told.refusal)
+    }
+
+    fn is_full(&self) -> bool {
+        self.refusal() == Some(Refusal::TableFull)
+    }
+
     fn accepted_clock(&self) -> Option<u32> {
-        self.call.clock().filter(|_| matches!(self.told.refusal, 0 | 12..=14))
+        self.call.clock().filter(|_| self.refusal().is_none_or(Refusal::keeps_clock))
     }
 
     /// Some slot of this limit is so many seconds past it at the call's clock.

@@ -8,6 +8,7 @@ use crate::sides::{Reference, Side};
 use crate::tally::Tally;
 use crate::world::World;
 use crate::worlds::breaks::BREAKS;
+use nidhaaguf::Refusal;
 use reference::book::Book;
 
 /// What a run has met.
@@ -77,8 +78,9 @@ pub fn run_case(
         let told = stepped.told;
         met.tally.add(call, told);
         met.edges.add(&Moment { before: &world, call, told, left: &stepped.packet });
-        if let (Kind::Broken(which), 15) = (case.kind, told.refusal) {
-            met.broken[which] += 1;
+        match (case.kind, Refusal::of_number(told.refusal)) {
+            (Kind::Broken(which), Some(Refusal::Unsound)) => met.broken[which] += 1,
+            _ => {}
         }
         world = stepped.world;
     }

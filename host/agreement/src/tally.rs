@@ -1,18 +1,30 @@
 //! Which answers a run has met, call by call.
 
 use crate::call::{Call, Told};
+use nidhaaguf::Refusal;
 use std::fmt;
 
 const CALLS: [&str; 6] = ["set up", "weight", "count", "tick", "inbound", "outbound"];
-const ANSWERS: usize = 19;
-const OPENED: usize = 16;
-const KEPT: usize = 17;
-const ENDED: usize = 18;
+/// What an accepted packet may have done: the library's change 1, 2 and 3.
+const CHANGES: [&str; 3] = ["opened", "kept", "ended"];
+/// The places of the answers in a row of the tally: accepted without a change, then the refusals, then the changes.
+const REFUSALS: usize = 1;
+const OPENED: usize = REFUSALS + Refusal::ALL.len();
+const ANSWERS: usize = OPENED + CHANGES.len();
 
 /// A run of this many calls must meet every answer 1,000 times; a shorter one in proportion.
 const FULL_RUN: usize = 2_000_000;
 
-/// Answers by call: accepted without a change is 0, a refusal its number, then the changes.
+/// An answer, without the number that it tells.
+#[derive(Clone, Copy, Debug)]
+enum Answered {
+    Accepted,
+    Refused(Refusal),
+    /// By its place in CHANGES.
+    Changed(usize),
+}
+
+/// How often each call was answered so.
 #[derive(Clone, Default, Debug)]
 pub struct Tally {
     cells: [[usize; ANSWERS]; CALLS.len()],
@@ -20,10 +32,11 @@ pub struct Tally {
 
 impl Tally {
     pub fn add(&mut self, call: &Call, told: Told) {
-        let answer = match (told.refusal, told.change) {
-            (0, 0) => 0,
-            (0, change) => OPENED + change as usize - 1,
-            (refusal, _) => refusal as usize,
+        let refused = Refusal::ALL.iter().position(|each| each.number() == told.refusal);
+        let answer = match (refused, told.change) {
+            (Some(refused), _) => REFUSALS + refused,
+            (None, 0) => 0,
+            (None, change) => OPENED + change as usize - 1,
         };
         self.cells[place(call)][answer] += 1;
     }
@@ -65,25 +78,44 @@ fn place(call: &Call) -> usize {
     }
 }
 
-/// "Order: setup 1, 2, 3, 4. Weight and count 15, 5. Tick 15, 11. Packets 15, 6 to 11, then 12 to 14."
-fn is_possible(call: usize, answer: usize) -> bool {
-    match call {
-        0 => matches!(answer, 0..=4),
-        1 | 2 => matches!(answer, 0 | 5 | 15),
-        3 => matches!(answer, 0 | 11 | 15),
-        4 => matches!(answer, 6..=15 | OPENED | KEPT | ENDED),
-        // "Outbound packets open nothing."
-        _ => matches!(answer, 6..=12 | 15 | KEPT | ENDED),
+/// The answer at that place.
+fn answered(place: usize) -> Answered {
+    match place {
+        0 => Answered::Accepted,
+        REFUSALS..OPENED => Answered::Refused(Refusal::ALL[place - REFUSALS]),
+        _ => Answered::Changed(place - OPENED),
     }
 }
 
-fn name_of(answer: usize) -> String {
-    match answer {
-        0 => "accepted".into(),
-        OPENED => "opened".into(),
-        KEPT => "kept".into(),
-        ENDED => "ended".into(),
-        refusal => format!("refusal {refusal}"),
+/// Whether the rules give that call that answer.
+fn is_possible(call: usize, place: usize) -> bool {
+    let packets = call >= 4;
+    match answered(place) {
+        Answered::Accepted => !packets,
+        Answered::Refused(refusal) => refuses(call, refusal),
+        // "Outbound packets open nothing."
+        Answered::Changed(change) => packets && (call == 4 || CHANGES[change] != "opened"),
+    }
+}
+
+/// "Order: setup 1, 2, 3, 4. Weight and count 15, 5. Tick 15, 11. Packets 15, 6 to 11, then 12 to 14."
+fn refuses(call: usize, refusal: Refusal) -> bool {
+    use Refusal::*;
+    match call {
+        0 => matches!(refusal, Sizes | Service | ServerUnset | ServerRepeated),
+        1 | 2 => matches!(refusal, Unsound | NoServer),
+        3 => matches!(refusal, Unsound | EarlierClock),
+        4 => refusal.is_of_packets(),
+        // those of an opening
+        _ => refusal.is_of_packets() && !matches!(refusal, TableFull | NoWeight),
+    }
+}
+
+fn name_of(place: usize) -> String {
+    match answered(place) {
+        Answered::Accepted => "accepted".into(),
+        Answered::Refused(refusal) => format!("refusal {}", refusal.number()),
+        Answered::Changed(change) => CHANGES[change].into(),
     }
 }
 

@@ -1,6 +1,7 @@
 //! The configuration: a file of settings, one to a line, and flags that override some.
 
 use crate::flags::Flags;
+use crate::given::Given;
 use crate::words;
 use nidhaaguf::{Protocol, Scheduler, Server, Settings};
 use std::fs::File;
@@ -15,22 +16,6 @@ const DEFAULT_SLOTS: usize = 4_096;
 
 /// More than any good file has: the wrong file is not read to its end.
 const MOST_BYTES: u64 = 65_536;
-
-/// A value and where it was given, for messages: "nidhaaguf.conf line 3" or "--slots".
-#[derive(Clone, Debug, PartialEq, Eq)]
-pub struct Given<T> {
-    /// The value.
-    pub value: T,
-    /// Where it was given.
-    pub place: String,
-}
-
-impl<T> Given<T> {
-    /// A value given at a place.
-    pub fn new(value: T, place: &str) -> Given<T> {
-        Given { value, place: place.to_string() }
-    }
-}
 
 /// A whole configuration. Whether the library takes it is for [`crate::setup`] to find out.
 #[derive(Clone, Debug, PartialEq, Eq)]

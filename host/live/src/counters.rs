@@ -91,7 +91,6 @@ fn change_index(change: Change) -> usize {
     }
 }
 
-/// Refusals are numbered from 1.
 fn refusal_index(refusal: Refusal) -> usize {
-    refusal.number() as usize - 1
+    Refusal::ALL.iter().position(|each| *each == refusal).expect("all of them are in ALL")
 }

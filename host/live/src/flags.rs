@@ -1,6 +1,6 @@
 //! The daemon's command line.
 
-use crate::config::Given;
+use crate::given::Given;
 use crate::words;
 use nidhaaguf::Scheduler;
 use std::ffi::OsString;

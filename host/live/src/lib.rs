@@ -13,6 +13,7 @@ pub mod connection;
 pub mod control;
 pub mod counters;
 pub mod flags;
+pub mod given;
 pub mod instance;
 pub mod metrics;
 pub mod packets;

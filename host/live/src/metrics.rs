@@ -61,9 +61,7 @@ fn add_packets(out: &mut String, instance: &Instance) {
     }
     head(out, "refusals_total", "counter", "Refused packets, by the number of the refusal.");
     for way in Way::ALL {
-        // the numbers below are those of setup, weight and count
-        let of_packets = Refusal::ALL.into_iter().filter(|&refusal| refusal.number() >= 6);
-        for refusal in of_packets {
+        for refusal in Refusal::ALL.into_iter().filter(|refusal| refusal.is_of_packets()) {
             let (way_name, number, reason) = (way.name(), refusal.number(), refusal.words());
             let labels = format!("{{way=\"{way_name}\",number=\"{number}\",reason=\"{reason}\"}}");
             sample(out, "refusals_total", &labels, counters.refused(way, refusal));

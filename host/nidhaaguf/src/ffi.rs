@@ -56,7 +56,7 @@ pub struct State {
 #[derive(Clone, Copy, Debug, PartialEq, Eq)]
 pub struct Answer {
     pub state: State,
-    /// 0 for accepted, else 1 to 15.
+    /// 0 for accepted, else the refusal's number.
     pub refusal: u32,
     /// Accepted: the count, how many connections a tick removed, or a packet's server; else 0.
     pub number: u32,

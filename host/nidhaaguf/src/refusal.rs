@@ -5,9 +5,8 @@ use std::fmt;
 
 /// Why a call was refused.
 ///
-/// Refusals change nothing, with three exceptions: [`NoConnection`](Refusal::NoConnection),
-/// [`TableFull`](Refusal::TableFull) and [`NoWeight`](Refusal::NoWeight) have taken the clock and removed the
-/// connections that are idle by it. A refused packet is always as it was.
+/// A refused call changes nothing, unless its refusal [keeps the clock](Refusal::keeps_clock). A refused packet is always
+/// as it was.
 ///
 /// ```
 /// use nidhaaguf::Refusal;
@@ -70,14 +69,46 @@ impl Refusal {
         Refusal::Unsound,
     ];
 
-    /// Its number in the rules, 1 to 15.
+    /// Its number in the rules.
     pub fn number(self) -> u32 {
         self as u32
     }
 
-    /// The refusal of that number; None for 0 (accepted) and numbers above 15.
+    /// The refusal of that number; None for 0 (accepted) and for numbers that none has.
     pub fn of_number(number: u32) -> Option<Refusal> {
         Refusal::ALL.into_iter().find(|refusal| refusal.number() == number)
+    }
+
+    /// Whether the refused call has taken the clock and removed the connections that are idle by it. With any other
+    /// refusal it has changed nothing.
+    pub fn keeps_clock(self) -> bool {
+        match self {
+            Refusal::NoConnection | Refusal::TableFull | Refusal::NoWeight => true,
+            Refusal::Sizes
+            | Refusal::Service
+            | Refusal::ServerUnset
+            | Refusal::ServerRepeated
+            | Refusal::NoServer
+            | Refusal::MalformedHeader
+            | Refusal::Fragment
+            | Refusal::OtherProtocol
+            | Refusal::MalformedTransport
+            | Refusal::OtherEndpoint
+            | Refusal::EarlierClock
+            | Refusal::Unsound => false,
+        }
+    }
+
+    /// Whether packets may be refused so; the others are those of setup, weight and count.
+    pub fn is_of_packets(self) -> bool {
+        !matches!(
+            self,
+            Refusal::Sizes
+                | Refusal::Service
+                | Refusal::ServerUnset
+                | Refusal::ServerRepeated
+                | Refusal::NoServer
+        )
     }
 
     /// Why, in words, without the number.

@@ -80,6 +80,12 @@ fn refusals_leave_the_packet_and_some_take_the_clock() {
     director.set_weight(0, 0).unwrap();
     assert_eq!(director.inbound(&mut SYN.clone(), 6), Err(Refusal::NoWeight));
     assert_eq!(director.inbound(&mut SYN.clone(), 5), Err(Refusal::EarlierClock));
+    let taking: Vec<u32> = Refusal::ALL
+        .into_iter()
+        .filter(|refusal| refusal.keeps_clock())
+        .map(Refusal::number)
+        .collect();
+    assert_eq!(taking, [12, 13, 14]);
 }
 
 #[test]
@@ -112,12 +118,13 @@ fn weights_and_used_slots_are_told() {
 
 #[test]
 fn refusals_by_number() {
-    for (place, refusal) in Refusal::ALL.into_iter().enumerate() {
-        assert_eq!(refusal.number() as usize, place + 1);
-        assert_eq!(Refusal::of_number(refusal.number()), Some(refusal));
-        assert_eq!(refusal.to_string(), format!("{} ({})", refusal.words(), place + 1));
+    for refusal in Refusal::ALL {
+        let number = refusal.number();
+        assert_eq!(Refusal::of_number(number), Some(refusal));
+        assert_eq!(refusal.to_string(), format!("{} ({number})", refusal.words()));
     }
-    assert_eq!((Refusal::of_number(0), Refusal::of_number(16)), (None, None));
+    assert!(Refusal::ALL.is_sorted_by_key(|refusal| refusal.number()));
+    assert_eq!((Refusal::of_number(0), Refusal::of_number(u32::MAX)), (None, None));
 }
 
 #[test]

@@ -15,3 +15,31 @@ pub const NO_CONNECTION: u8 = 12;
 pub const TABLE_FULL: u8 = 13;
 pub const NO_WEIGHT: u8 = 14;
 pub const UNSOUND: u8 = 15;
+
+/// All of them.
+pub const ALL: [u8; 15] = [
+    SIZES,
+    SERVICE,
+    SERVER_ENDPOINT,
+    SERVERS_EQUAL,
+    NO_SERVER,
+    HEADER,
+    FRAGMENT,
+    PROTOCOL,
+    SEGMENT,
+    NOT_OURS,
+    CLOCK,
+    NO_CONNECTION,
+    TABLE_FULL,
+    NO_WEIGHT,
+    UNSOUND,
+];
+
+/// "Packets 15, 6 to 11, then 12 to 14": what a packet may be refused with before its clock is looked at.
+pub const BEFORE_CLOCK: [u8; 6] = [UNSOUND, HEADER, FRAGMENT, PROTOCOL, SEGMENT, NOT_OURS];
+
+/// "After 11 is passed, the clock is stored and idle connections are removed; 12, 13 and 14 keep that and change nothing
+/// else." The others change nothing at all.
+pub fn keeps_clock(number: u8) -> bool {
+    matches!(number, NO_CONNECTION | TABLE_FULL | NO_WEIGHT)
+}

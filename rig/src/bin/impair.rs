@@ -3,7 +3,7 @@
 
 use live::system::{self, Waited};
 use live::tun::Tun;
-use rig::relay::{Rates, Relay};
+use rig::links::relay::{Rates, Relay};
 use std::fs::File;
 use std::io::{self, Write};
 use std::process::ExitCode;

@@ -1,19 +1,18 @@
 //! Clients of the control socket that the daemon must outlast.
 
-use crate::daemon::{output, PATIENCE};
+use crate::daemon::{control, output, PATIENCE};
 use crate::rig::Rig;
 use live::system::{self, Waited};
+use programs::SETPRIV;
 use std::fs;
 use std::io::{BufRead, BufReader, Read, Write};
 use std::os::unix::fs::PermissionsExt;
 use std::os::unix::net::UnixStream;
-use std::process::{Child, ChildStdout, Command, Stdio};
+use std::process::{Child, ChildStdout, Stdio};
 use std::sync::atomic::{AtomicBool, Ordering};
 use std::sync::mpsc::{self, Receiver};
 use std::thread::JoinHandle;
 use std::time::{Duration, Instant};
-
-const CONTROL: &str = env!("CARGO_BIN_EXE_nidhaagufctl");
 
 /// Commands that nobody should send.
 pub fn wrong_commands(rig: &mut Rig) {
@@ -33,10 +32,10 @@ pub fn wrong_commands(rig: &mut Rig) {
         assert!(found.starts_with(answer), "{line:?}: {found}");
     }
     let socket = rig.daemon.socket.as_str();
-    let (code, out, log) = output(Command::new(CONTROL).args(["--socket", socket, "drain", "2"]));
+    let (code, out, log) = output(control().args(["--socket", socket, "drain", "2"]));
     assert_eq!((code, out.as_str()), (Some(1), ""));
     assert!(log.starts_with("nidhaagufctl: there is no server of that number (5)"), "{log}");
-    let (code, out, _) = output(Command::new(CONTROL).args(["--socket", socket, "count", "0"]));
+    let (code, out, _) = output(control().args(["--socket", socket, "count", "0"]));
     assert_eq!((code, out.as_str()), (Some(0), "0\n"));
     rig.must_serve();
 }
@@ -113,11 +112,11 @@ pub fn other_users(rig: &mut Rig) {
     let mode = || fs::metadata(&socket).unwrap().permissions().mode() & 0o777;
     assert_eq!(mode(), 0o600);
     // where the build is, others may not look
-    let control = rig.place.file("nidhaagufctl");
-    fs::copy(CONTROL, &control).unwrap();
+    let copy = rig.place.file("nidhaagufctl");
+    fs::copy(control().get_program(), &copy).unwrap();
     let as_nobody = || {
-        let words = ["--reuid=nobody", "--clear-groups", &control, "--socket", &socket, "status"];
-        output(Command::new("setpriv").args(words))
+        let words = ["--reuid=nobody", "--clear-groups", &copy, "--socket", &socket, "status"];
+        output(SETPRIV.command().args(words))
     };
     let (code, out, log) = as_nobody();
     assert_eq!((code, out.as_str()), (Some(2), ""), "{log}");
@@ -132,7 +131,7 @@ pub fn other_users(rig: &mut Rig) {
 
 /// `nidhaagufctl watch` prints the table at once and after a change, and not for the clock's sake.
 pub fn a_watch_that_reads(rig: &mut Rig) {
-    let mut command = Command::new(CONTROL);
+    let mut command = control();
     command.args(["--socket", &rig.daemon.socket, "watch"]).stdout(Stdio::piped());
     let mut watch = Ended(command.spawn().unwrap());
     let lines = lines_of(watch.0.stdout.take().unwrap());

@@ -1,6 +1,7 @@
 //! A running daemon, and what is said to it.
 
 use crate::link;
+use programs::KILL;
 use std::fs;
 use std::io::{BufRead, BufReader, ErrorKind, Read, Write};
 use std::os::unix::fs::PermissionsExt;
@@ -45,6 +46,11 @@ pub fn command(place: &Place, config: &str, device: &str, flags: &[&str]) -> Com
     command
 }
 
+/// The operator's command.
+pub fn control() -> Command {
+    Command::new(env!("CARGO_BIN_EXE_nidhaagufctl"))
+}
+
 /// A daemon that said it is ready, with its device up.
 pub struct Daemon {
     child: Child,
@@ -62,9 +68,10 @@ impl Daemon {
             let output = child.wait_with_output().unwrap();
             panic!("not ready: {ready:?} {}", String::from_utf8_lossy(&output.stderr));
         }
-        link::ip("link set nid0 up");
         child.stdout = Some(out.into_inner());
-        Daemon { child, socket: place.file("sock"), ready }
+        let daemon = Daemon { child, socket: place.file("sock"), ready };
+        link::ip("link set nid0 up");
+        daemon
     }
 
     pub fn connect(&self) -> UnixStream {
@@ -96,8 +103,7 @@ impl Daemon {
     /// Sends a signal by its name.
     pub fn signal(&self, name: &str) {
         let process = self.child.id().to_string();
-        let done = Command::new("kill").args(["-s", name, &process]).status().unwrap();
-        assert!(done.success());
+        assert!(KILL.run(&["-s", name, &process]).status.success());
     }
 
     /// Waits for its end.

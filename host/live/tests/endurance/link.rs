@@ -2,13 +2,13 @@
 //! daemon writes, it receives.
 
 use live::system::{self, Waited};
+use programs::IP;
 use std::ffi::{c_void, CString};
 use std::fs;
 use std::io::{self, ErrorKind, Write};
 use std::mem::size_of;
 use std::os::fd::{AsRawFd, FromRawFd, OwnedFd};
 use std::path::Path;
-use std::process::Command;
 use std::time::{Duration, Instant};
 
 const CLONE_NEWNET: i32 = 0x4000_0000;
@@ -47,9 +47,6 @@ pub fn enter_own_network() -> Result<(), String> {
     if !Path::new("/dev/net/tun").exists() {
         return Err("there is no /dev/net/tun".into());
     }
-    if Command::new("ip").arg("-V").output().is_err() {
-        return Err("there is no `ip` command (Debian's package iproute2)".into());
-    }
     // SAFETY: unshare takes any number; this one changes nothing but the thread's network.
     if unsafe { unshare(CLONE_NEWNET) } != 0 {
         return Err(format!("no network namespace: {}", io::Error::last_os_error()));
@@ -66,7 +63,7 @@ pub fn say(line: &str) {
 
 /// Runs an `ip` command, which must succeed.
 pub fn ip(words: &str) {
-    let output = Command::new("ip").args(words.split(' ')).output().unwrap();
+    let output = IP.run(&words.split(' ').collect::<Vec<_>>());
     assert!(output.status.success(), "ip {words}: {}", String::from_utf8_lossy(&output.stderr));
 }
 

@@ -5,11 +5,16 @@ use std::fs;
 use std::path::PathBuf;
 use std::process::{Command, Output};
 
-const DAEMON: &str = env!("CARGO_BIN_EXE_nidhaagufd");
-const CONTROL: &str = env!("CARGO_BIN_EXE_nidhaagufctl");
+fn daemon(words: &[&str]) -> (i32, String, String) {
+    run(Command::new(env!("CARGO_BIN_EXE_nidhaagufd")).args(words))
+}
 
-fn run(program: &str, words: &[&str]) -> (i32, String, String) {
-    let Output { status, stdout, stderr } = Command::new(program).args(words).output().unwrap();
+fn control(words: &[&str]) -> (i32, String, String) {
+    run(Command::new(env!("CARGO_BIN_EXE_nidhaagufctl")).args(words))
+}
+
+fn run(command: &mut Command) -> (i32, String, String) {
+    let Output { status, stdout, stderr } = command.output().unwrap();
     let text = |bytes: Vec<u8>| String::from_utf8(bytes).unwrap();
     (status.code().unwrap(), text(stdout), text(stderr))
 }
@@ -25,13 +30,13 @@ fn file(name: &str, text: &str) -> PathBuf {
 fn a_bad_configuration_ends_the_daemon_with_its_line() {
     let path = file("bad.conf", &CONFIG.replace("least-connection", "rr"));
     let path = path.to_str().unwrap();
-    let (code, out, log) = run(DAEMON, &["--config", path]);
+    let (code, out, log) = daemon(&["--config", path]);
     assert_eq!((code, out.as_str()), (2, ""));
     assert!(
         log.starts_with(&format!("nidhaagufd: {path} line 3: expected a scheduler: ")),
         "{log}"
     );
-    let (code, _, log) = run(DAEMON, &["--config", path, "--scheduler", "1", "--slots", "0"]);
+    let (code, _, log) = daemon(&["--config", path, "--scheduler", "1", "--slots", "0"]);
     assert_eq!(code, 2);
     assert!(log.contains("line 3"), "a flag doesn't make a bad line good: {log}");
 }
@@ -41,30 +46,30 @@ fn check_says_whether_it_is_good() {
     let path = file("good.conf", CONFIG);
     let path = path.to_str().unwrap();
     let good = (0, "configuration is good\n".to_string(), String::new());
-    assert_eq!(run(DAEMON, &["--config", path, "--check"]), good);
-    let (code, out, log) = run(DAEMON, &["--check", "--config", path, "--slots", "4097"]);
+    assert_eq!(daemon(&["--config", path, "--check"]), good);
+    let (code, out, log) = daemon(&["--check", "--config", path, "--slots", "4097"]);
     assert_eq!((code, out.as_str()), (2, ""));
     assert!(log.starts_with("nidhaagufd: --slots: there must be"), "{log}");
-    let (code, _, log) = run(DAEMON, &["--check", "--config", "/nowhere/at.all"]);
+    let (code, _, log) = daemon(&["--check", "--config", "/nowhere/at.all"]);
     assert_eq!(code, 2);
     assert!(log.starts_with("nidhaagufd: /nowhere/at.all: can't be opened: "), "{log}");
 }
 
 #[test]
 fn a_file_that_has_no_end_is_not_read_to_it() {
-    let (code, _, log) = run(DAEMON, &["--check", "--config", "/dev/zero"]);
+    let (code, _, log) = daemon(&["--check", "--config", "/dev/zero"]);
     assert_eq!(code, 2);
     assert!(log.contains("got more than 65536 bytes"), "{log}");
 }
 
 #[test]
 fn help_and_version() {
-    let (code, out, _) = run(DAEMON, &["--help"]);
+    let (code, out, _) = daemon(&["--help"]);
     assert!(code == 0 && out.contains("--clock-speed N"), "{out}");
-    assert_eq!(run(DAEMON, &["--version"]).1, "nidhaagufd 0.1.0\n");
-    let (code, out, _) = run(CONTROL, &["help"]);
+    assert_eq!(daemon(&["--version"]).1, "nidhaagufd 0.1.0\n");
+    let (code, out, _) = control(&["help"]);
     assert!(code == 0 && out.contains("weight N W"), "{out}");
-    assert_eq!(run(CONTROL, &["--version"]).1, "nidhaagufctl 0.1.0\n");
+    assert_eq!(control(&["--version"]).1, "nidhaagufctl 0.1.0\n");
 }
 
 #[test]
@@ -81,7 +86,7 @@ fn wrong_usage_of_the_command() {
             "can't talk to a director at /nowhere/sock: there is no such socket",
         ),
     ] {
-        let (code, out, log) = run(CONTROL, words);
+        let (code, out, log) = control(words);
         assert_eq!((code, out.as_str()), (2, ""), "{words:?}");
         assert!(log.starts_with(&format!("nidhaagufctl: {complaint}")), "{words:?}: {log}");
     }

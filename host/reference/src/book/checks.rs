@@ -3,6 +3,7 @@
 use super::reading::{self, Reading, Way};
 use super::{shows_accepted_clock, Book, Call, Settings};
 use crate::data::{Answer, Change};
+use crate::refusal::{self, BEFORE_CLOCK};
 
 type Verdict = Result<(), String>;
 
@@ -110,8 +111,8 @@ fn check_tick(book: &mut Book, clock: u32, answer: Answer) -> Verdict {
 /// 15 comes before it in the order, and only its answer can show it.
 fn check_11(book: &Book, clock: u32, answer: Answer) -> Verdict {
     let due = clock < book.clock;
-    let given = answer == Answer::Refused(11);
-    ensure(given == due || answer == Answer::Refused(15), || {
+    let given = answer == Answer::Refused(refusal::CLOCK);
+    ensure(given == due || answer == Answer::Refused(refusal::UNSOUND), || {
         format!("clock {clock} after {}: answered {answer:?}", book.clock)
     })
 }
@@ -132,11 +133,11 @@ fn check_packet(
     }
     let Some(reading) = reading::read(packet, &settings, way) else {
         // one of 6 to 10 falls: the order doesn't come to 11 and beyond
-        let early = matches!(answer, Answer::Refused(1..=10 | 15));
+        let early = matches!(answer, Answer::Refused(number) if BEFORE_CLOCK.contains(&number));
         return ensure(early, || format!("6 to 10 were passed over: answered {answer:?}"));
     };
     check_11(book, clock, answer)?;
-    if matches!(answer, Answer::Refused(11 | 15)) {
+    if matches!(answer, Answer::Refused(refusal::CLOCK | refusal::UNSOUND)) {
         return Ok(());
     }
     check_12(book, &settings, &reading, way, clock, answer)?;
@@ -167,7 +168,7 @@ fn check_12(
         Some(entry) => way == Way::Outbound && sender != Some(entry.server),
         None => !reading.could_open(way),
     };
-    let given = answer == Answer::Refused(12);
+    let given = answer == Answer::Refused(refusal::NO_CONNECTION);
     ensure(given == due, || format!("12 is due: {due}, answered {answer:?}"))
 }
 

@@ -5,6 +5,7 @@ mod checks;
 mod reading;
 
 use crate::data::{Answer, Change, Server, Service, PLACES, UDP};
+use crate::refusal;
 
 pub use checks::check;
 pub use reading::{End, Reading, Way};
@@ -139,5 +140,9 @@ impl Book {
 
 /// "Tick or packet whose clock is accepted, as its answer shows": past 11 in the order.
 pub fn shows_accepted_clock(answer: Answer) -> bool {
-    matches!(answer, Answer::Number(_) | Answer::Passed(..) | Answer::Refused(12..=14))
+    match answer {
+        Answer::Number(_) | Answer::Passed(..) => true,
+        Answer::Refused(number) => refusal::keeps_clock(number),
+        Answer::Done => false,
+    }
 }

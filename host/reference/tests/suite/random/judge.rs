@@ -9,7 +9,9 @@ use reference::*;
 /// Judges one call's effects. `left` is the packet as it left.
 pub fn effects(before: &Director, after: &Director, deed: &Deed, answer: Answer, left: &[u8]) {
     match (answer, deed) {
-        (Answer::Refused(12..=14), Deed::Inbound { clock, .. } | Deed::Outbound { clock, .. }) => {
+        (Answer::Refused(number), Deed::Inbound { clock, .. } | Deed::Outbound { clock, .. })
+            if refusal::keeps_clock(number) =>
+        {
             assert_eq!(left, deed.packet());
             let ticked = ticked(before, *clock);
             assert_eq!(after, &ticked);

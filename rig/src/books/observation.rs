@@ -1,0 +1,90 @@
+//! Every look at the director's table is kept, so that in the end each count can be held against the packets.
+
+use crate::books::looks::{Clock, Look, Watcher};
+use crate::books::packets::PacketBook;
+use crate::books::Book;
+use crate::lab::director::Director;
+use crate::lab::status::Status;
+use crate::lab::{Failure, REPLICAS};
+use crate::links::packet::Packet;
+use crate::timeline::Timeline;
+use std::sync::Arc;
+
+/// The looks so far: the drill's own, and those that are taken beside it all the time.
+pub struct Observation {
+    looks: Vec<Look>,
+    watcher: Option<Watcher>,
+    clock_speed: u32,
+}
+
+impl Observation {
+    /// Begins to look at a director whose clock runs so fast.
+    pub fn begin(director: &Arc<Director>, clock_speed: u32) -> Observation {
+        let watcher = Some(Watcher::start(director.clone()));
+        Observation { looks: Vec::new(), watcher, clock_speed }
+    }
+
+    /// Holds every count that was ever read against the packets that the director was handed and wrote.
+    pub fn hold_against(self, packets: &[Packet], timeline: &Timeline) -> Result<Verdict, Failure> {
+        let looks = self.looks;
+        let clock = Clock::that_fits(&looks, self.clock_speed)?;
+        let book = PacketBook::read(packets, &clock)?;
+        let exact = book.check(&looks, &clock)?;
+        timeline.tell(format!(
+            "{} counts were read, and each is what the packets say (for {exact} of them only one number is right)",
+            looks.len() * REPLICAS
+        ));
+        Ok(Verdict { book, clock, looks })
+    }
+}
+
+impl Book for Observation {
+    fn look(&mut self, director: &Director) -> Result<Status, Failure> {
+        let look = Look::take(director)?;
+        let status = look.status.clone();
+        self.looks.push(look);
+        Ok(status)
+    }
+
+    /// The packets tell it.
+    fn opened(&mut self, _: usize, _: u16) {}
+
+    /// The packets tell it.
+    fn ended(&mut self, _: u16, _: u32, _: u32) {}
+
+    fn close(&mut self) -> Result<(), Failure> {
+        let watched = self.watcher.take().map(Watcher::finish).transpose()?;
+        self.looks.extend(watched.unwrap_or_default());
+        self.looks.sort_by(|a, b| a.after.total_cmp(&b.after));
+        Ok(())
+    }
+}
+
+/// What is known in the end.
+pub struct Verdict {
+    /// What the packets say.
+    pub book: PacketBook,
+    clock: Clock,
+    looks: Vec<Look>,
+}
+
+impl Verdict {
+    /// Tells when the count of that server was first read as zero, and when the last packet had come that it waited for.
+    pub fn tell_zero(&self, server: usize, timeline: &Timeline) -> Result<(), Failure> {
+        let count = |look: &&Look| look.status.rows[server].connections;
+        let mut looks = self.looks.iter().skip_while(|look| count(look) == 0);
+        let zero = looks.find(|look| count(look) == 0);
+        let zero = zero.ok_or(Failure(format!("replica {server} never read zero")))?;
+        let last = match self.book.last_packet(server, zero.before, &self.clock) {
+            Some((least, most)) if least == most => format!("last packet at clock {least}"),
+            Some((least, most)) => format!("last packet at clock {least} to {most}"),
+            None => "no packet to wait for".into(),
+        };
+        timeline.tell(format!(
+            "replica {server}: {last}, first read as zero at clock {} (ended by RST: {}); no connection was ever moved",
+            zero.status.clock,
+            self.book.resets(server)
+        ));
+        Ok(())
+    }
+}

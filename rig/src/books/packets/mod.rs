@@ -1,0 +1,183 @@
+//! The book of the packets: what a capture on the director's device says of each connection, and the counts that follow.
+//!
+//! Clients and replicas can't tell when a connection's last packet went through where packets are lost or doubled: a side
+//! whose last segment is not acknowledged sends it again, after 0.2 s at first and then after twice the time of before; and
+//! a doubled FIN that finds its receiver closed is answered by an RST, which ends the connection at once. So this book is
+//! kept from the packets themselves: a connection counts until an RST, or until its idle limit after the last packet.
+
+mod connection;
+#[cfg(test)]
+mod tests;
+
+use crate::books::looks::{Clock, Look};
+use crate::lab::{ensure, fail, Failure};
+use crate::links::packet::{server_of, Packet};
+use connection::{Connection, Moment};
+use std::collections::{HashMap, VecDeque};
+
+/// How many connections a failure tells.
+const TOLD: usize = 5;
+
+/// A packet that the director took.
+struct Taken<'a> {
+    client: &'a str,
+    server: usize,
+    inbound: bool,
+    flags: &'a str,
+    moment: Moment,
+}
+
+/// The book, of all connections from the first packet of the capture on.
+#[derive(Debug, Default)]
+pub struct PacketBook {
+    connections: Vec<Connection>,
+    newest: HashMap<String, usize>,
+    handed: HashMap<String, VecDeque<Packet>>,
+    /// Packets that the director was handed and never wrote.
+    pub refused: usize,
+}
+
+impl PacketBook {
+    /// Reads the packets of the director's device, in their order. Fails where a connection's packet goes to, or comes
+    /// from, another server than its first one.
+    pub fn read(packets: &[Packet], clock: &Clock) -> Result<PacketBook, Failure> {
+        let mut book = PacketBook::default();
+        for packet in packets {
+            if packet.is_written() {
+                book.written(packet, clock)?;
+            } else {
+                let inbound = server_of(&packet.source).is_none();
+                let client = if inbound { &packet.source } else { &packet.destination };
+                book.handed.entry(client.clone()).or_default().push_back(packet.clone());
+            }
+        }
+        book.refused += book.handed.values().map(VecDeque::len).sum::<usize>();
+        Ok(book)
+    }
+
+    /// The director wrote a packet: it has taken the handed one that it was made from, and refused those before it.
+    fn written(&mut self, packet: &Packet, clock: &Clock) -> Result<(), Failure> {
+        let to = server_of(&packet.destination);
+        let client = if to.is_some() { &packet.source } else { &packet.destination };
+        let waiting = self.handed.entry(client.clone()).or_default();
+        let place = waiting.iter().position(|handed| handed.is_rewritten_as(packet));
+        let Some(place) = place else {
+            return fail(format!("the director wrote what it wasn't handed: {packet}"));
+        };
+        self.refused += place;
+        let handed = waiting.drain(..=place).next_back().expect("it is at that place");
+        let moment = Moment { handed: handed.time, written: packet.time };
+        let Some(server) = to.or(server_of(&handed.source)) else {
+            return fail(format!("a packet from no server was taken: {handed}"));
+        };
+        self.take(
+            Taken { client, server, inbound: to.is_some(), flags: &packet.flags, moment },
+            clock,
+        )
+    }
+
+    /// Enters a packet that the director took.
+    fn take(&mut self, taken: Taken, clock: &Clock) -> Result<(), Failure> {
+        let Taken { client, server, inbound, flags, moment } = taken;
+        let opens = inbound && flags.contains('S') && !flags.contains(['.', 'R', 'F']);
+        if opens && !self.is_present(client, moment, clock) {
+            self.newest.insert(client.into(), self.connections.len());
+            self.connections.push(Connection::new(client, server, moment));
+        }
+        let Some(&newest) = self.newest.get(client) else {
+            return fail(format!(
+                "a packet of {client} was taken before its connection was opened"
+            ));
+        };
+        let connection = &mut self.connections[newest];
+        let words = format!(
+            "moved: {client} began on replica {}, and then met {server}",
+            connection.server
+        );
+        ensure(connection.server == server, words)?;
+        connection.last = moment;
+        connection.reset |= flags.contains('R');
+        let finished =
+            if inbound { &mut connection.client_finished } else { &mut connection.server_finished };
+        *finished |= flags.contains('F');
+        Ok(())
+    }
+
+    /// Whether the client's newest connection is still there when that packet comes.
+    fn is_present(&self, client: &str, moment: Moment, clock: &Clock) -> bool {
+        let Some(&newest) = self.newest.get(client) else {
+            return false;
+        };
+        let connection = &self.connections[newest];
+        let (_, last) = clock.seconds(connection.last.handed, connection.last.written);
+        let (first, _) = clock.seconds(moment.handed, moment.written);
+        !connection.reset && first < last + connection.limit()
+    }
+
+    /// How many connections were opened on that server.
+    pub fn opened(&self, server: usize) -> usize {
+        self.connections.iter().filter(|connection| connection.server == server).count()
+    }
+
+    /// The connections that were opened on that server before that time and weren't ended by an RST: the least and the
+    /// greatest second of the director's clock at which their last packet can have come.
+    pub fn last_packet(&self, server: usize, before: f64, clock: &Clock) -> Option<(i64, i64)> {
+        let here = self
+            .connections
+            .iter()
+            .filter(|connection| connection.server == server && !connection.reset);
+        let here = here.filter(|connection| connection.opened.handed < before);
+        let last = here
+            .map(|connection| connection.last)
+            .max_by(|a, b| a.written.total_cmp(&b.written))?;
+        Some(clock.seconds(last.handed, last.written))
+    }
+
+    /// How many connections on that server were ended by an RST.
+    pub fn resets(&self, server: usize) -> usize {
+        self.connections
+            .iter()
+            .filter(|connection| connection.server == server && connection.reset)
+            .count()
+    }
+
+    /// Holds every count of every look against the book. Tells for how many of them only one number was right.
+    pub fn check(&self, looks: &[Look], clock: &Clock) -> Result<usize, Failure> {
+        let mut exact = 0;
+        for look in looks {
+            for row in &look.status.rows {
+                let (least, most) = self.bounds(row.number, look, clock);
+                let (count, at) = (row.connections, look.status.clock);
+                let words = format!(
+                    "replica {} reads {count} at clock {at}, and the packets say ",
+                    row.number
+                );
+                ensure(
+                    count >= least,
+                    format!("{words}at least {least}: {}", self.told(row.number, clock)),
+                )?;
+                ensure(
+                    count <= most,
+                    format!("{words}at most {most}: {}", self.told(row.number, clock)),
+                )?;
+                exact += usize::from(least == most);
+            }
+        }
+        Ok(exact)
+    }
+
+    fn bounds(&self, server: usize, look: &Look, clock: &Clock) -> (u32, u32) {
+        let here = self.connections.iter().filter(|connection| connection.server == server);
+        here.map(|connection| connection.bounds(look, clock))
+            .fold((0, 0), |(a, b), (c, d)| (a + c, b + d))
+    }
+
+    /// The connections of a server that were seen last, for a failure's words.
+    fn told(&self, server: usize, clock: &Clock) -> String {
+        let here = self.connections.iter().filter(|connection| connection.server == server);
+        let mut here: Vec<&Connection> = here.collect();
+        here.sort_by(|a, b| b.last.written.total_cmp(&a.last.written));
+        let told = here.iter().take(TOLD).map(|connection| connection.told(clock));
+        told.collect::<Vec<_>>().join("; ")
+    }
+}

@@ -1,0 +1,95 @@
+//! Small captures, and the counts that they allow.
+
+use super::*;
+use crate::lab::status::Status;
+
+const CLIENT: &str = "10.0.0.1.40000";
+const VIRTUAL: &str = "192.0.2.10.5432";
+const SERVERS: [&str; 2] = ["10.1.0.5.6432", "10.2.0.5.6432"];
+
+/// A packet that the director is handed at that time and the one that it writes then.
+fn taken(time: f64, server: usize, inbound: bool, flags: &str) -> [Packet; 2] {
+    let packet = |source, destination| {
+        let segment = format!("{source} > {destination}: Flags [{flags}], cksum 0x0000 (correct), seq {time}, length 0");
+        crate::links::packet::parse(
+            &format!("{time} IP (tos 0x0, ttl 63, id 7, offset 0)"),
+            &segment,
+        )
+        .unwrap()
+    };
+    match inbound {
+        true => [packet(CLIENT, VIRTUAL), packet(CLIENT, SERVERS[server])],
+        false => [packet(SERVERS[server], CLIENT), packet(VIRTUAL, CLIENT)],
+    }
+}
+
+fn look(clock: u32, counts: [u32; 2]) -> Look {
+    let status = Status::of_counts(clock, &counts);
+    Look { before: f64::from(clock) + 0.5, after: f64::from(clock) + 0.6, status }
+}
+
+/// The clock of a director that was looked at twice in each of 1000 seconds, and showed 0 at time 0.
+fn clock() -> Clock {
+    let looks = (0..2000).map(|half| {
+        let (clock, time) = (half / 2, f64::from(half / 2) + f64::from(half % 2) * 0.99);
+        Look { before: time, after: time, ..look(clock, [0, 0]) }
+    });
+    Clock::that_fits(&looks.collect::<Vec<_>>(), 1).unwrap()
+}
+
+fn book(packets: &[[Packet; 2]]) -> Result<PacketBook, Failure> {
+    PacketBook::read(&packets.concat(), &clock())
+}
+
+fn check(packets: &[[Packet; 2]], looks: &[(u32, [u32; 2])]) -> Result<usize, Failure> {
+    let looks: Vec<Look> = looks.iter().map(|&(clock, counts)| look(clock, counts)).collect();
+    book(packets)?.check(&looks, &clock())
+}
+
+#[test]
+fn a_finished_connection_counts_until_120_after_its_last_packet() {
+    let packets = [
+        taken(10.1, 0, true, "S"),
+        taken(20.1, 0, true, "F."),
+        taken(30.1, 0, false, "F."),
+        taken(40.1, 0, true, "."),
+    ];
+    assert_eq!(check(&packets, &[(9, [0, 0]), (10, [1, 0]), (159, [1, 0]), (160, [0, 0])]), Ok(8));
+    for wrong in [(9, [1, 0]), (10, [0, 0]), (159, [0, 0]), (160, [1, 0]), (100, [0, 1])] {
+        assert!(check(&packets, &[wrong]).is_err(), "{wrong:?}");
+    }
+}
+
+#[test]
+fn an_open_connection_counts_until_900_after_its_last_packet() {
+    let packets = [taken(10.1, 1, true, "S"), taken(20.1, 1, true, "F.")];
+    assert_eq!(check(&packets, &[(919, [0, 1]), (920, [0, 0])]), Ok(4));
+    assert!(check(&packets, &[(919, [0, 0])]).is_err());
+    assert!(check(&packets, &[(920, [0, 1])]).is_err());
+}
+
+#[test]
+fn a_reset_ends_a_connection_at_once_and_the_port_may_come_again() {
+    let packets =
+        [taken(10.1, 0, true, "S"), taken(20.1, 0, false, "R"), taken(30.1, 1, true, "S")];
+    assert_eq!(check(&packets, &[(19, [1, 0]), (20, [0, 0]), (30, [0, 1])]), Ok(6));
+    assert!(check(&packets, &[(20, [1, 0])]).is_err());
+}
+
+#[test]
+fn a_moved_connection_is_found() {
+    let packets = [taken(10.1, 0, true, "S"), taken(11.1, 1, true, ".")];
+    assert!(book(&packets).unwrap_err().0.starts_with("moved: "));
+    let packets = [taken(10.1, 0, true, "S"), taken(11.1, 1, true, "S")];
+    assert!(book(&packets).unwrap_err().0.starts_with("moved: "));
+}
+
+#[test]
+fn what_is_not_written_was_refused_and_what_was_not_handed_is_not_written() {
+    let [handed, written] = taken(10.1, 0, true, "S");
+    let [refused, _] = taken(9.1, 0, true, "F.");
+    let book =
+        PacketBook::read(&[refused.clone(), handed, written.clone(), refused], &clock()).unwrap();
+    assert_eq!((book.refused, book.opened(0)), (2, 1));
+    assert!(PacketBook::read(&[written], &clock()).is_err());
+}

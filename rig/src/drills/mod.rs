@@ -1,0 +1,7 @@
+//! The drills, and the service that they are held with.
+
+pub mod compare;
+pub mod death;
+pub mod drain;
+pub mod impaired;
+mod service;

@@ -1,0 +1,74 @@
+//! Programs that run: to their end, or beside the drill.
+
+use super::failure::{ensure, wait_for, Failure};
+use std::process::{Child, Command, ExitStatus};
+use std::time::Duration;
+
+extern "C" {
+    fn kill(process: i32, signal: i32) -> i32;
+}
+
+/// Ends a program that has a handler for it in order.
+pub const SIGTERM: i32 = 15;
+/// The end of pgbench's time, wherever its clock stands.
+pub const SIGALRM: i32 = 14;
+
+/// Runs a command to its end and gives its standard output; a bad exit fails with its standard error.
+pub fn output(command: &mut Command) -> Result<String, Failure> {
+    let shown = shown(command);
+    let done = command.output().map_err(|error| Failure(format!("{shown}: {error}")))?;
+    let said = String::from_utf8_lossy(&done.stderr);
+    ensure(done.status.success(), format!("{shown}: {}: {}", done.status, said.trim()))?;
+    Ok(String::from_utf8_lossy(&done.stdout).into_owned())
+}
+
+/// The command as one would type it.
+fn shown(command: &Command) -> String {
+    let words = std::iter::once(command.get_program()).chain(command.get_args());
+    words.map(|word| word.to_string_lossy()).collect::<Vec<_>>().join(" ")
+}
+
+/// A child that is ended when it is dropped.
+#[derive(Debug)]
+pub struct Running {
+    /// The process.
+    pub child: Child,
+    shown: String,
+}
+
+impl Running {
+    /// Starts a command.
+    pub fn start(command: &mut Command) -> Result<Running, Failure> {
+        let shown = shown(command);
+        let child = command.spawn().map_err(|error| Failure(format!("{shown}: {error}")))?;
+        Ok(Running { child, shown })
+    }
+
+    /// Sends the process a signal.
+    pub fn signal(&self, signal: i32) -> Result<(), Failure> {
+        // SAFETY: kill takes two numbers. The process was not waited for yet, so its number is still its own.
+        match unsafe { kill(self.child.id() as i32, signal) } {
+            0 => Ok(()),
+            _ => Err(std::io::Error::last_os_error().into()),
+        }
+    }
+
+    /// Whether it has not ended.
+    pub fn is_alive(&mut self) -> Result<bool, Failure> {
+        Ok(self.child.try_wait()?.is_none())
+    }
+
+    /// Waits for its end.
+    pub fn wait(&mut self, within: Duration) -> Result<ExitStatus, Failure> {
+        let what = format!("the end of {}", self.shown);
+        wait_for(&what, within, || Ok(self.child.try_wait()?))
+    }
+}
+
+impl Drop for Running {
+    fn drop(&mut self) {
+        // Both fail only where it has ended already.
+        let _ = self.child.kill();
+        let _ = self.child.wait();
+    }
+}

@@ -1,0 +1,5 @@
+//! The clients: sessions that make payments, and load by pgbench.
+
+pub mod payments;
+pub mod pgbench;
+pub mod session;

@@ -1,0 +1,91 @@
+//! A client that makes payments in one session, and looks after each whether the row is there and which replica answers.
+
+use crate::lab::network::balanced;
+use crate::lab::{fail, Failure, Lab};
+use crate::load::session::Session;
+
+/// Payments of one client have numbers from its own range of this size.
+const RANGE: u32 = 1_000_000;
+
+/// A client with an open session.
+pub struct Client {
+    /// Its session.
+    pub session: Session,
+    /// Statements that were answered as they must be.
+    pub statements: u32,
+    /// Payments that are committed.
+    pub committed: u32,
+    first: u32,
+    open: bool,
+}
+
+impl Client {
+    /// Opens a session for the client of that number.
+    pub fn open(lab: &Lab, number: u32) -> Result<Client, Failure> {
+        let session = Session::open(lab)?;
+        Ok(Client { session, statements: 1, committed: 0, first: number * RANGE, open: false })
+    }
+
+    /// Begins a transaction and writes a payment in it.
+    pub fn begin(&mut self) -> Result<(), Failure> {
+        let payment = self.payment();
+        self.expect("begin", &[])?;
+        self.expect(&format!("insert into payments values ({payment}, 'paid {payment}')"), &[])?;
+        self.open = true;
+        Ok(())
+    }
+
+    /// Looks at the payment of the open transaction: it must be there, and the session on its replica.
+    pub fn look(&mut self) -> Result<(), Failure> {
+        let payment = self.payment();
+        let server = self.session.server;
+        let row = format!("paid {payment}|replica {server}|{}", balanced(server));
+        let sql = format!(
+            "select note, name, inet_server_addr() from payments, replica where id = {payment}"
+        );
+        self.expect(&sql, &[&row])
+    }
+
+    /// Commits the open transaction, and looks at the payment after it.
+    pub fn commit(&mut self) -> Result<(), Failure> {
+        self.expect("commit", &[])?;
+        self.look()?;
+        self.open = false;
+        self.committed += 1;
+        Ok(())
+    }
+
+    /// Does some work: goes on in the open transaction, or makes a whole payment, and counts all its payments.
+    pub fn work(&mut self) -> Result<(), Failure> {
+        if self.open {
+            return self.look();
+        }
+        self.begin()?;
+        self.look()?;
+        self.commit()?;
+        let (first, past) = (self.first, self.first + RANGE);
+        let sql = format!("select count(*) from payments where id >= {first} and id < {past}");
+        self.expect(&sql, &[&self.committed.to_string()])
+    }
+
+    /// Whether a transaction is open.
+    pub fn is_in_transaction(&self) -> bool {
+        self.open
+    }
+
+    fn payment(&self) -> u32 {
+        self.first + self.committed
+    }
+
+    fn expect(&mut self, sql: &str, want: &[&str]) -> Result<(), Failure> {
+        let server = self.session.server;
+        let whose =
+            |words: String| Failure(format!("a session that began on replica {server}: {words}"));
+        let rows = self.session.ask(sql).map_err(|failure| whose(failure.0))?;
+        if rows != want {
+            return fail(whose(format!("'{sql}' gave {rows:?} and not {want:?}")).0);
+        }
+        self.statements += 1;
+        Ok(())
+    }
+}
