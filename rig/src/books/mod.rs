@@ -6,6 +6,7 @@
 pub mod looks;
 pub mod observation;
 pub mod packets;
+pub mod returns;
 pub mod sessions;
 
 use crate::lab::director::Director;

@@ -7,8 +7,7 @@ use super::service::{counts, Service};
 use crate::books::observation::Observation;
 use crate::lab::network::{gateway, server};
 use crate::lab::status::Standing;
-use crate::lab::REPLICAS;
-use crate::lab::{ensure, wait_for, Failure, Lab};
+use crate::lab::{ensure, wait_for, Failure, Lab, REPLICAS};
 use crate::load::payments::Client;
 use crate::timeline::Timeline;
 use programs::{IP, SYSCTL};
@@ -95,11 +94,8 @@ impl Drill<'_> {
 
     /// The drain keeps new sessions off the dead replica, also where it has the fewest.
     fn drain(&mut self) -> Result<(), Failure> {
-        self.service.director.drain(DEAD)?;
-        for _ in 0..NEWCOMERS {
-            let server = self.service.open()?;
-            ensure(server != DEAD, format!("a new session came to the dead replica {DEAD}"))?;
-        }
+        self.service.drain(DEAD)?;
+        self.service.open_newcomers(NEWCOMERS, DEAD)?;
         let status = self.service.look()?;
         let (counts, dead) = (counts(&status), status.rows[DEAD].connections);
         let fewest = status.rows.iter().all(|row| row.number == DEAD || row.connections > dead);

@@ -9,8 +9,7 @@
 use super::service::Service;
 use crate::books::observation::Observation;
 use crate::lab::status::Standing;
-use crate::lab::REPLICAS;
-use crate::lab::{ensure, Failure, Lab};
+use crate::lab::{ensure, Failure, Lab, REPLICAS};
 use crate::links::impairment::{Impaired, Impairment, Plan as Links};
 use crate::links::relay::Rates;
 use crate::load::payments::Client;
@@ -93,12 +92,7 @@ impl Drill<'_> {
     }
 
     fn drain(&mut self) -> Result<(), Failure> {
-        self.service.director.drain(DRAINED)?;
-        let row = self.service.look()?.rows.swap_remove(DRAINED);
-        ensure(
-            (row.weight, row.standing) == (0, Standing::Draining),
-            format!("after the drain: {row:?}"),
-        )?;
+        let row = self.service.drain(DRAINED)?;
         let words = format!("replica {DRAINED} has {} connections and not {EACH}", row.connections);
         ensure(row.connections as usize == EACH, words)?;
         self.timeline.tell(format!("replica {DRAINED} is drained; its {EACH} sessions stay"));
@@ -106,13 +100,7 @@ impl Drill<'_> {
     }
 
     fn open_newcomers(&mut self) -> Result<(), Failure> {
-        for _ in 0..NEWCOMERS {
-            let server = self.service.open()?;
-            ensure(
-                server != DRAINED,
-                format!("a new session came to the drained replica {DRAINED}"),
-            )?;
-        }
+        self.service.open_newcomers(NEWCOMERS, DRAINED)?;
         let words = "new sessions, and pgbench with new connections all the time: none on it";
         self.timeline.tell(format!("{NEWCOMERS} {words}"));
         Ok(())

@@ -3,9 +3,8 @@
 mod unplug;
 mod zero;
 
-use super::service::{counts, Kept, Service};
+use super::service::{counts, listed, Kept, Service};
 use crate::books::sessions::SessionBook;
-use crate::lab::status::Standing;
 use crate::lab::{ensure, Failure, Lab, REPLICAS};
 use crate::load::pgbench::{Load, Plan};
 use crate::timeline::Timeline;
@@ -92,11 +91,7 @@ impl Drill<'_> {
     }
 
     fn drain(&mut self) -> Result<(), Failure> {
-        self.service.director.drain(DRAINED)?;
-        let status = self.service.look()?;
-        let row = &status.rows[DRAINED];
-        let draining = row.weight == 0 && row.standing == Standing::Draining;
-        ensure(draining, format!("replica {DRAINED} is not draining"))?;
+        let row = self.service.drain(DRAINED)?;
         self.tell(format!(
             "replica {DRAINED} is drained: weight 0, {} connections",
             row.connections
@@ -130,15 +125,9 @@ impl Drill<'_> {
     }
 
     fn open_newcomers(&mut self) -> Result<(), Failure> {
-        let mut places = Vec::new();
-        for _ in 0..self.pace.newcomers {
-            let server = self.service.open()?;
-            let words = format!("a new session is on replica {DRAINED}, which is drained");
-            ensure(server != DRAINED, words)?;
-            places.push(server.to_string());
-        }
+        let servers = self.service.open_newcomers(self.pace.newcomers, DRAINED)?;
         self.service.work()?;
-        self.tell(format!("{} new sessions, on replicas {}", places.len(), places.join(", ")));
+        self.tell(format!("{} new sessions, on replicas {}", servers.len(), listed(&servers)));
         Ok(())
     }
 

@@ -10,7 +10,7 @@ use crate::books::{Book, FINISHED};
 use crate::lab::director::{Director, Options};
 use crate::lab::network::{self, VIRTUAL, VIRTUAL_PORT};
 use crate::lab::postgres::Postgres;
-use crate::lab::status::Status;
+use crate::lab::status::{Row, Standing, Status};
 use crate::lab::{ensure, wait_for, Failure, Lab, REPLICAS};
 use crate::links::capture::{Captured, Captures};
 use crate::load::payments::Client;
@@ -124,6 +124,28 @@ impl<'a, B: Book> Service<'a, B> {
         Ok(())
     }
 
+    /// Drains a replica that has connections, and gives its row.
+    pub fn drain(&mut self, server: usize) -> Result<Row, Failure> {
+        self.director.drain(server)?;
+        let row = self.look()?.rows.swap_remove(server);
+        let draining = (row.weight, row.standing) == (0, Standing::Draining);
+        ensure(draining, format!("after the drain: {row:?}"))?;
+        Ok(row)
+    }
+
+    /// Opens so many sessions, of which none may come to the drained replica. Gives their replicas.
+    pub fn open_newcomers(
+        &mut self,
+        sessions: usize,
+        drained: usize,
+    ) -> Result<Vec<usize>, Failure> {
+        let servers: Result<Vec<usize>, Failure> = (0..sessions).map(|_| self.open()).collect();
+        let servers = servers?;
+        let words = format!("new sessions came to replicas {servers:?}, and {drained} is drained");
+        ensure(!servers.contains(&drained), words)?;
+        Ok(servers)
+    }
+
     /// Lets every session do some work.
     pub fn work(&mut self) -> Result<(), Failure> {
         self.clients.iter_mut().try_for_each(Client::work)
@@ -191,6 +213,11 @@ impl<'a, B: Book> Service<'a, B> {
 
 /// The counts of a status, in words.
 pub fn counts(status: &Status) -> String {
-    let counts: Vec<String> = status.rows.iter().map(|row| row.connections.to_string()).collect();
-    format!("counts {}", counts.join(", "))
+    format!("counts {}", listed(status.rows.iter().map(|row| row.connections)))
+}
+
+/// Numbers with commas between them.
+pub fn listed<T: ToString>(numbers: impl IntoIterator<Item = T>) -> String {
+    let numbers: Vec<String> = numbers.into_iter().map(|number| number.to_string()).collect();
+    numbers.join(", ")
 }
