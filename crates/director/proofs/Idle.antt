@@ -3,11 +3,11 @@
 use Prim.Native.Nat.{ℕ}
 use mathlib.Core.List.{List}
 use mathlib.Core.Path.{_≡_}
+use lib.ListN.{getD}
 use Rattle.table.specs.declared.slot.Slot.{Slot}
 use Rattle.table.specs.Slots.{freeSlot}
 use Rattle.table.specs.Expire.{NoneIdle}
 use Rattle.table.proofs.Idle.{none-removed, none-counted, removed-none-idle, opened-none-idle, touched-none-idle, freed-none-idle}
-use lib.ListN.{getD}
 use Rattle.director.specs.declared.state.Director.{Director}
 use Rattle.director.specs.declared.segment.Segment.{Segment}
 use Rattle.director.specs.declared.decide.Decision.{Decision}

@@ -2,12 +2,11 @@
 use Prim.Native.Nat.{ℕ, _<_}
 use mathlib.Core.Bool.{Bool, true, false}
 use mathlib.Core.List.{List, []}
-use mathlib.Core.Logic.{⊎-elim}
 use mathlib.Core.Path.{_≡_, refl, _∙_}
 use borrow.Author.Tests.{ltb-true, ltb-false}
 use lib.Dec.{ltb}
 use lib.ListN.{length, length-set}
-use Rattle.lists.proofs.Cases.{truth, by-test, both, conjunction}
+use Rattle.lists.proofs.Cases.{by-test, both, conjunction}
 use Rattle.servers.specs.declared.Server.{Server}
 use Rattle.servers.specs.Servers.{countAt, withWeight}
 use Rattle.servers.specs.Fresh.{freshServers}
@@ -29,7 +28,7 @@ use Rattle.director.specs.Setup.{newDirector, onVerdict, setupOf}
 use Rattle.director.specs.Control.{numberJudged, weighed, onWeight, weightOf, onCount, countCallOf}
 use Rattle.director.specs.Tick.{tickOnClock, tickOf}
 use Rattle.director.proofs.Sound.{Accepted, judged, sound-parts, sound-words}
-use Rattle.director.proofs.Leaving.{Leaves, leaves-all, leaves-changed}
+use Rattle.director.proofs.Leaving.{Leaves, leaves-all, leaves-changed, leaves-judged}
 use Rattle.director.proofs.Refusals.{EarlyVerdict, settings-early}
 use Rattle.director.proofs.Changes.{sound-with}
 use Rattle.director.proofs.Settled.{settled-sound}
@@ -104,22 +103,17 @@ module _ (d : Director) (row : List ℕ) (sound : soundOf d row ≡ true) where
           leaves-changed d (lent row []) (inWords (tickOnClock d (lent (slots row) []) now false)) refl
           (settled-sound d row now sound (ltb-false now (d .clock) e))
 
--- 4. The same of any state: one that is not sound gets 15
+-- 3. The same of any state
 
 module _ (d : Director) (row : List ℕ) where
-  by-sound : (r : Result) → (soundOf d row ≡ true → Leaves d (lent row []) r) → (soundOf d row ≡ false → r ≡ refusal Refusal.Unsound d (lent row []))
-      → Leaves d (lent row []) r
-  by-sound r sound unsound =
-      ⊎-elim sound (λ (e : soundOf d row ≡ false). rw (unsound e) (leaves-all d (lent row []) Refusal.Unsound refl)) (truth (soundOf d row))
-
   pub weight-leaves : (k w : ℕ) → Leaves d (lent row []) (weightOf d row k w)
   unfolding weightOf numberJudged
-  weight-leaves k w = by-sound (weightOf d row k w) (λ e. weight-sound d row e k w) (λ e. rw e)
+  weight-leaves k w = leaves-judged d (lent row []) (weightOf d row k w) (λ e. weight-sound d row e k w) (λ e. rw e)
 
   pub count-leaves : (k : ℕ) → Leaves d (lent row []) (countCallOf d row k)
   unfolding countCallOf numberJudged
-  count-leaves k = by-sound (countCallOf d row k) (λ e. count-sound d row e k) (λ e. rw e)
+  count-leaves k = leaves-judged d (lent row []) (countCallOf d row k) (λ e. count-sound d row e k) (λ e. rw e)
 
   pub tick-leaves : (now : ℕ) → Leaves d (lent row []) (tickOf d row now)
   unfolding tickOf
-  tick-leaves now = by-sound (tickOf d row now) (λ e. tick-sound d row e now) (λ e. rw e)
+  tick-leaves now = leaves-judged d (lent row []) (tickOf d row now) (λ e. tick-sound d row e now) (λ e. rw e)

@@ -2,12 +2,10 @@
 use Prim.Native.Nat.{ℕ}
 use mathlib.Core.Bool.{Bool, true, false}
 use mathlib.Core.List.{List}
-use mathlib.Core.Logic.{⊎-elim}
 use mathlib.Core.Path.{_≡_, refl}
 use native.Mathlib.Omega.{arith}
 use borrow.Author.Tests.{ltb-false}
 use lib.Dec.{ltb}
-use Rattle.lists.proofs.Cases.{truth}
 use Rattle.checksum.specs.Ones.{Bytes}
 use Rattle.table.specs.declared.slot.Slot.{Slot}
 use Rattle.table.specs.Slots.{slots, words}
@@ -27,7 +25,7 @@ use Rattle.director.specs.Carry.{carriedOut}
 use Rattle.director.specs.Packets.{routed, onClock, onSeen, packetHeld, packetOf}
 use Rattle.director.proofs.Sound.{sound-parts, sound-words}
 use Rattle.director.proofs.Settled.{settled-sound}
-use Rattle.director.proofs.Leaving.{LeavesSound, Leaves, leaves-all, leaves-changed}
+use Rattle.director.proofs.Leaving.{LeavesSound, Leaves, leaves-all, leaves-changed, leaves-judged}
 use Rattle.director.proofs.Refusals.{EarlySeen, read-early}
 use Rattle.director.proofs.Segments.{ReadFrom, read-from, port-below, udp-unfinished}
 use Rattle.director.proofs.Decisions.{Grounded, decided-grounded}
@@ -82,7 +80,6 @@ module _ (d : Director) (row p : List ℕ) (now : ℕ) (bytes : Bytes p) where
   pub packet-leaves : (way : Way) → Leaves d (lent row p) (packetOf way d row p now)
   unfolding packetOf packetHeld
   packet-leaves way =
-      ⊎-elim
-      (λ (e : soundOf d row ≡ true). rw e (by-seen e way (segmentRead way (d .service) (d .servers) p) refl (read-early way (d .service) (d .servers) p)))
-      (λ (e : soundOf d row ≡ false). rw e (leaves-all d x Refusal.Unsound refl))
-      (truth (soundOf d row))
+      leaves-judged d x (packetOf way d row p now)
+      (λ e. rw e (by-seen e way (segmentRead way (d .service) (d .servers) p) refl (read-early way (d .service) (d .servers) p)))
+      (λ e. rw e)

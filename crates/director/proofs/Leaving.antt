@@ -33,3 +33,9 @@ leaves-sound d x r left sound =
     (λ (e : changesNothing (r .answer) ≡ true). let (same, lent) = left .back e in rw (same, lent) sound)
     (λ (e : changesNothing (r .answer) ≡ false). left .sound e)
     (truth (changesNothing (r .answer)))
+
+-- every call but setup: of a sound state it is known what it leaves, and one that is not sound gets 15
+pub leaves-judged : (d : Director) (x : Lent (List ℕ)) (r : Result) → (soundOf d (x .table) ≡ true → Leaves d x r)
+    → (soundOf d (x .table) ≡ false → r ≡ refusal Refusal.Unsound d x) → Leaves d x r
+leaves-judged d x r sound unsound =
+    ⊎-elim sound (λ (e : soundOf d (x .table) ≡ false). rw (unsound e) (leaves-all d x Refusal.Unsound refl)) (truth (soundOf d (x .table)))
