@@ -11,3 +11,4 @@ pub mod Fresh
 pub mod Rereading
 pub mod Redirections
 pub mod PastTotal
+pub mod ControlBits

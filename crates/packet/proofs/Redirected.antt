@@ -119,7 +119,7 @@ module _ (protocol : ℕ) (side : Side) (a′ port : ℕ) (p : List ℕ) (room :
       (truth (ltb i (totalLength p))))
       (truth (ltb i (headerLength p)))
 
-  pub kept : Kept protocol side a′ port p
+  pub kept : Kept protocol side p q
   kept = record { long = redirected-length; byte = byte-kept }
 
   -- the first ten bytes, with lengths and protocol, and the other address

@@ -26,7 +26,7 @@ use Rattle.packet.proofs.Segment.{tcp-written, udp-none, udp-some, tran
 use Rattle.packet.proofs.Redirected.{kept, payload-length, payload-room, redirected-length, redirected-sum, redirected-payload, redirected-bytes, header-kept, total-kept}
 use Rattle.packet.proofs.Taken.{accepted, redirectable}
 use Rattle.packet.proofs.Verified.{payload-bytes, covered-words, header-verifies, transport-verifies}
-use Rattle.packet.proofs.PastTotal.{past-total}
+use Rattle.packet.proofs.PastTotal.{read-alike, past-total}
 use Rattle.packet.proofs.Rereading.{read-again}
 use Rattle.packet.proofs.Fresh.{valid-fresh, valid-transmitted, word-not-ones, address-not-ones}
 
@@ -53,7 +53,7 @@ module _ (protocol : ℕ) (side : Side) (a′ port : ℕ) (p : List ℕ) (r : Pa
   tcp-exactly : protocol ≡ 6 → transportVerifies protocol q ≡ transportVerifies protocol p
   tcp-exactly tcp = transport-exactly (λ e. absurd (eqb-false protocol 6 e tcp))
 
-  verifies-exactly : VerifiesExactly protocol side a′ port p
+  verifies-exactly : VerifiesExactly protocol p q
   verifies-exactly = record { header = header-exactly; tcp = tcp-exactly; udp = λ udp some. transport-exactly (λ e. some) }
 
   -- ---- valid ones leave as fresh ones
@@ -103,8 +103,16 @@ module _ (protocol : ℕ) (side : Side) (a′ port : ℕ) (p : List ℕ) (r : Pa
       5 (lit< tt) long (transport-exactly (λ e. sum) ∙ v) (λ e. udp-some protocol _ _ udp sum (sym written ∙ e))
 
   -- the new address and port are not 0: setup refuses those
-  leaves-fresh : 0 < a′ → 0 < port → LeavesFresh protocol side a′ port p
+  leaves-fresh : 0 < a′ → 0 < port → LeavesFresh protocol p q
   leaves-fresh address some = record { header = header-fresh address; tcp = tcp-fresh some; udp = udp-fresh; none = λ udp zero. written ∙ udp-none protocol _ _ udp zero }
 
 pub laws : Laws
-laws = record { redirectable = redirectable; kept = kept; past-total = past-total; verifies-exactly = verifies-exactly; leaves-fresh = leaves-fresh; read-again = read-again }
+laws = record {
+  redirectable = redirectable;
+  kept = kept;
+  verifies-exactly = verifies-exactly;
+  leaves-fresh = leaves-fresh;
+  read-again = read-again;
+  read-alike = read-alike;
+  past-total = past-total;
+}
