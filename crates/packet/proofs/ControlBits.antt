@@ -44,12 +44,11 @@ module _ (set : ControlBit → Bool) where
       let r = small (set RST) in
       let s = small (set SYN) in
       let f = small (set FIN) in
-      rw (
-        tested (set SYN) (byteOf set / 2 % 2) (omega arith),
-        tested (set ACK) (byteOf set / 16 % 2) (omega arith),
-        tested (set RST) (byteOf set / 4 % 2) (omega arith),
-        tested (set FIN) (byteOf set % 2) (omega arith),
-      )
+      let syn : flagsOf (byteOf set) .syn ≡ set SYN = tested (set SYN) (byteOf set / 2 % 2) (omega arith) in
+      let ack : flagsOf (byteOf set) .ack ≡ set ACK = tested (set ACK) (byteOf set / 16 % 2) (omega arith) in
+      let rst : flagsOf (byteOf set) .rst ≡ set RST = tested (set RST) (byteOf set / 4 % 2) (omega arith) in
+      let fin : flagsOf (byteOf set) .fin ≡ set FIN = tested (set FIN) (byteOf set % 2) (omega arith) in
+      rw (syn, ack, rst, fin)
 
 -- the bits of a byte
 bitsOf : ℕ → ControlBit → Bool
