@@ -3,3 +3,4 @@ pub mod Book
 pub mod Claim
 pub mod Run
 pub mod Examples
+pub mod Demand1

@@ -75,13 +75,13 @@ opens-here protocol f Sender.Client i e = refl
 opens-here protocol f (Sender.Server j) i e = absurd (false≢true e)
 
 -- a packet of another server opens nothing
-others-open-none : (protocol : ℕ) (f : Flags) (sender : Sender) (i : ServerNo) → belongs sender i ≡ false → opensBy protocol f sender ≡ false
+pub others-open-none : (protocol : ℕ) (f : Flags) (sender : Sender) (i : ServerNo) → belongs sender i ≡ false → opensBy protocol f sender ≡ false
 others-open-none protocol f Sender.Client i e = absurd (true≢false e)
 others-open-none protocol f (Sender.Server j) i e = refl
 
 -- 3. Every decision has its grounds
 
-scheduler-known : (g : Service) → serviceRight g ≡ true → isScheduler (g .scheduler) ≡ true
+pub scheduler-known : (g : Service) → serviceRight g ≡ true → isScheduler (g .scheduler) ≡ true
 scheduler-known g e =
     let front = not (eqb (g .address) 0) && not (eqb (g .port) 0) && isProtocol (g .protocol) in
     both front (isScheduler (g .scheduler)) e .1

@@ -1,0 +1,264 @@
+-- Each call gives the number of the lowest-placed of its tests that fails, and 0 where none does. Assumes nothing.
+use Prim.Native.Nat.{ℕ}
+use mathlib.Core.Bool.{Bool, true, false, cond, not, _&&_}
+use mathlib.Core.List.{List, [], _∷_}
+use mathlib.Core.Logic.{⊎-elim}
+use mathlib.Core.Path.{_≡_, refl, _∙_}
+use borrow.Author.Tests.{ltb-false}
+use lib.Dec.{eqb, ltb}
+use lib.ListN.{getD}
+use Rattle.lists.proofs.Cases.{truth}
+use Rattle.packet.specs.declared.read.Fault.{Fault}
+use Rattle.packet.specs.declared.read.Flags.{Flags}
+use Rattle.packet.specs.declared.read.HeaderReading.{HeaderReading}
+use Rattle.packet.specs.declared.read.Reading.{Reading}
+use Rattle.packet.specs.declared.read.Transport.{Transport}
+use Rattle.checksum.specs.Ones.{wordAt}
+use Rattle.packet.specs.Bytes.{addressAt, payload}
+use Rattle.packet.specs.Reading.{broken, fragment, tcpMalformed, udpMalformed, flagsOf, noFlags, headerOf, portsOf, packetWith, readTransport, withTransport, readPayload, onHeader, readPacket}
+use Rattle.servers.specs.declared.Server.{Server}
+use Rattle.servers.specs.declared.ServerNo.{ServerNo}
+use Rattle.servers.specs.declared.Found.{Found}
+use Rattle.servers.specs.declared.rules.Rule.{Rule}
+use Rattle.servers.specs.Rules.{allKeep, numberOf}
+use Rattle.scheduler.specs.declared.walk.Picked.{Picked}
+use Rattle.scheduler.specs.ByNumber.{pickOf}
+use Rattle.scheduler.specs.Weights.{noWeight}
+use Rattle.scheduler.specs.Laws.{isNobody as nobodyPicked}
+use Rattle.scheduler.proofs.Picks.{pick-nobody}
+use Rattle.table.specs.declared.slot.Slot.{Slot}
+use Rattle.table.specs.declared.slot.SlotNo.{SlotNo}
+use Rattle.table.specs.declared.find.Found.{Found as Place}
+use Rattle.table.specs.Slots.{slots, words, freeSlot, isUnused}
+use Rattle.table.specs.Find.{ofClient, firstFrom}
+use Rattle.director.specs.declared.state.Service.{Service}
+use Rattle.director.specs.declared.state.Director.{Director}
+use Rattle.director.specs.declared.state.Refusal.{Refusal}
+use Rattle.director.specs.declared.state.Way.{Way}
+use Rattle.director.specs.declared.judge.Verdict.{Verdict}
+use Rattle.director.specs.declared.segment.Sender.{Sender}
+use Rattle.director.specs.declared.segment.Segment.{Segment}
+use Rattle.director.specs.declared.segment.Seen.{Seen}
+use Rattle.director.specs.declared.decide.Decision.{Decision}
+use Rattle.director.specs.declared.state.Answer.{Answer}
+use Rattle.director.specs.State.{Lent, lent, Result, refusalNumber}
+use Rattle.director.specs.Judge.{sizesRight, serviceRight, settingsJudged, soundOf}
+use Rattle.director.specs.Setup.{onVerdict, setupOf}
+use Rattle.director.specs.Control.{numberJudged, onWeight, weightOf, onCount, countCallOf}
+use Rattle.director.specs.Tick.{settled, settledSlots, settledLent, tickOnSound, tickOf}
+use Rattle.director.specs.Segment.{inboundSegment, onNumber, onWay, onReading, segmentRead}
+use Rattle.director.specs.Decide.{opensBy, opens, belongs, onRst, onPresent, onPick, onRoom, onAbsent, onClient, decided}
+use Rattle.director.specs.Carry.{carriedOut}
+use Rattle.director.specs.Packets.{routed, onClock, onSeen, packetHeld, packetOnSound, packetOf}
+use Rattle.director.proofs.Sound.{sound-parts}
+use Rattle.director.proofs.Settled.{settled-sound}
+use Rattle.director.proofs.Decisions.{others-open-none, scheduler-known}
+use Rattle.audit.specs.Calls.{Call, setUp, setWeight, count, tick, packet, State, called}
+use Rattle.audit.specs.Demand1.{lowestFailing, setupTests, numberTests, tickTests, transportMalformed, isNobody, isElsewhere, isPresent, isIts, routeTests, seenTests, packetTests, tests, numberGiven}
+
+-- 1. Setup, weight, count and tick
+
+module _ (d : Director) (row : List ℕ) where
+  setup-exactly : (g : Service) (given : List Server) → numberGiven (setupOf d g given row .answer) ≡ lowestFailing (setupTests row g given)
+  unfolding setupOf settingsJudged
+  setup-exactly g given =
+      by-tests (sizesRight (g .servers) row) (serviceRight g) (allKeep Rule.Set given (g .servers)) (allKeep Rule.New given (g .servers))
+    where
+      by-tests : (sizes service set new : Bool)
+          → numberGiven (onVerdict d g given row (cond sizes (cond service (cond set (cond new Verdict.Accepted (Verdict.Refused Refusal.ServerRepeated)) (Verdict.Refused Refusal.ServerUnset)) (Verdict.Refused Refusal.Service)) (Verdict.Refused Refusal.Size)) .answer)
+          ≡ cond (not sizes) 1 (cond (not service) 2 (cond (not set) 3 (cond (not new) 4 0)))
+      by-tests false service set new = refl
+      by-tests true false set new = refl
+      by-tests true true false new = refl
+      by-tests true true true false = refl
+      by-tests true true true true = refl
+
+  -- weight and count
+  by-number : (k : ℕ) (on : Verdict → Result) → ((why : Refusal) → on (Verdict.Refused why) .answer ≡ Answer.Refused why) → numberGiven (on Verdict.Accepted .answer) ≡ 0
+      → numberGiven (on (numberJudged d row k) .answer) ≡ lowestFailing (numberTests d row k)
+  unfolding numberJudged
+  by-number k on refused accepted = by-tests (soundOf d row) (ltb k (d .service .servers))
+    where
+      by-tests : (sound exists : Bool)
+          → numberGiven (on (cond sound (cond exists Verdict.Accepted (Verdict.Refused Refusal.NoServer)) (Verdict.Refused Refusal.Unsound)) .answer)
+          ≡ cond (not sound) 15 (cond (not exists) 5 0)
+      by-tests false exists = rw (refused Refusal.Unsound)
+      by-tests true false = rw (refused Refusal.NoServer)
+      by-tests true true = accepted
+
+  tick-exactly : (now : ℕ) → numberGiven (tickOf d row now .answer) ≡ lowestFailing (tickTests d row now)
+  unfolding tickOf
+  tick-exactly now = by-tests (soundOf d row) (ltb now (d .clock)) refl
+    where
+      by-tests : (sound earlier : Bool) → ltb now (d .clock) ≡ earlier
+          → numberGiven (tickOnSound d (lent row []) now sound .answer) ≡ cond (not sound) 15 (cond earlier 11 0)
+      by-tests false earlier e = refl
+      by-tests true true e = rw e
+      by-tests true false e = rw e
+
+  weight-exactly : (k w : ℕ) → numberGiven (weightOf d row k w .answer) ≡ lowestFailing (numberTests d row k)
+  unfolding weightOf
+  weight-exactly k w = by-number k (onWeight d row k w) (λ why. refl) refl
+
+  count-exactly : (k : ℕ) → numberGiven (countCallOf d row k .answer) ≡ lowestFailing (numberTests d row k)
+  unfolding countCallOf
+  count-exactly k = by-number k (onCount d row k) (λ why. refl) refl
+
+-- 2. A packet that got past 11
+
+-- the number that a decision gives
+decisionNumber : Decision → ℕ
+decisionNumber (Decision.Refuse why) = refusalNumber why
+decisionNumber (Decision.Keep k) = 0
+decisionNumber (Decision.End k) = 0
+decisionNumber (Decision.Open k i walk) = 0
+
+carried-number : (d : Director) (x : Lent (List Slot)) (m : Segment) (a : Decision) → numberGiven (carriedOut d x m a .answer) ≡ decisionNumber a
+unfolding decisionNumber
+carried-number d x m (Decision.Refuse why) = refl
+carried-number d x m (Decision.Keep k) = refl
+carried-number d x m (Decision.End k) = refl
+carried-number d x m (Decision.Open k i walk) = refl
+
+module _ (d : Director) (l : List Slot) (m : Segment)
+    (nobody : nobodyPicked (pickOf (d .service .scheduler) (d .servers) (d .service .servers) (d .walk)) ≡ noWeight (d .servers) (d .service .servers)) where
+  abbrev new : Bool
+  new = opens (d .service .protocol) m
+
+  abbrev none : Bool
+  none = noWeight (d .servers) (d .service .servers)
+
+  -- what 12 to 14 say, of the client's connection and the lowest free slot
+  abbrev routeNumber : Place → Place → ℕ
+  routeNumber client free =
+      cond (not (isIts l m client) && not new) 12
+      (cond ((not (isPresent client) && new) && not (isPresent free)) 13 (cond ((not (isPresent client) && new) && none) 14 0))
+
+  on-present : (k : SlotNo) (free : Place) → decisionNumber (onPresent m k (getD l (k .0) freeSlot)) ≡ routeNumber (Place.At k) free
+  unfolding decisionNumber
+  on-present k free = by-belongs (belongs (m .sender) (getD l (k .0) freeSlot .server)) refl (m .flags .rst)
+    where
+      by-belongs : (here : Bool) → belongs (m .sender) (getD l (k .0) freeSlot .server) ≡ here
+          → (rst : Bool) → decisionNumber (cond here (onRst k rst) (Decision.Refuse Refusal.NoConnection)) ≡ cond (not here && not new) 12 0
+      by-belongs true e true = refl
+      by-belongs true e false = refl
+      by-belongs false e rst = rw (others-open-none (d .service .protocol) (m .flags) (m .sender) (getD l (k .0) freeSlot .server) e)
+
+  on-pick : (k : SlotNo) (p : Picked) → decisionNumber (onPick k p) ≡ cond (nobodyPicked p) 14 0
+  unfolding decisionNumber
+  on-pick k Picked.Nobody = refl
+  on-pick k (Picked.Server i walk) = refl
+
+  on-absent : (opening : Bool) (free : Place)
+      → decisionNumber (cond opening (onRoom d free) (Decision.Refuse Refusal.NoConnection))
+      ≡ cond (not opening) 12 (cond (opening && not (isPresent free)) 13 (cond (opening && none) 14 0))
+  unfolding decisionNumber
+  on-absent false free = refl
+  on-absent true Place.Nothing = refl
+  on-absent true (Place.At k) = on-pick k (pickOf (d .service .scheduler) (d .servers) (d .service .servers) (d .walk)) ∙ rw nobody
+
+  by-client : (client : Place) → decisionNumber (onClient d l m client) ≡ routeNumber client (firstFrom isUnused 0 l)
+  by-client (Place.At k) = on-present k (firstFrom isUnused 0 l)
+  by-client Place.Nothing = on-absent new (firstFrom isUnused 0 l)
+
+  route-exactly : (p : List ℕ) → numberGiven (routed d (lent l p) m .answer) ≡ lowestFailing (routeTests d l m)
+  unfolding routed decided
+  route-exactly p = carried-number d (lent l p) m (decided d l m) ∙ by-client (firstFrom (ofClient (m .address) (m .port)) 0 l)
+
+-- 3. A packet call
+
+module _ (way : Way) (d : Director) (row p : List ℕ) (now : ℕ) (sound : soundOf d row ≡ true) where
+  abbrev g : Service
+  g = d .service
+
+  abbrev earlier : Bool
+  earlier = ltb now (d .clock)
+
+  abbrev settledOne : Director
+  settledOne = settled d (slots row) now
+
+  abbrev left : List Slot
+  left = settledSlots d (slots row) now
+
+  -- the number that is given after what the packet says, and what 12 to 14 say of it
+  abbrev number : Seen → ℕ
+  number s = numberGiven (onSeen d (lent (slots row) p) now s .answer)
+
+  abbrev later : Seen → ℕ
+  later s = cond earlier 11 (lowestFailing (seenTests settledOne left s))
+
+  on-segment : (m : Segment) → number (Seen.Segment m) ≡ later (Seen.Segment m)
+  on-segment m = by-clock earlier refl
+    where
+      by-clock : (e : Bool) → earlier ≡ e
+          → numberGiven (onClock d (lent (slots row) p) m now e .answer) ≡ cond e 11 (lowestFailing (routeTests settledOne left m))
+      by-clock true e = refl
+      by-clock false e =
+          let after = sound-parts settledOne (words left) (settled-sound d row now sound (ltb-false now (d .clock) e)) in
+          route-exactly settledOne left m
+          (pick-nobody (g .scheduler) (settledOne .servers) (g .servers) (d .walk) (scheduler-known g (after .settings .right)) (after .range)) p
+
+  -- 10
+  on-endpoint : (way : Way) (flags : Flags) → let s = onWay g (d .servers) (packetWith (headerOf p) (portsOf (payload p) flags)) way in
+      number s ≡ cond (isElsewhere way g (d .servers) p) 10 (later s)
+  on-endpoint Way.Inbound flags = by-endpoint (eqb (addressAt p 16) (g .address) && eqb (wordAt (payload p) 2) (g .port))
+    where
+      by-endpoint : (to : Bool)
+          → let s = cond to (inboundSegment (packetWith (headerOf p) (portsOf (payload p) flags))) (Seen.Refused Refusal.OtherEndpoint) in
+          number s ≡ cond (not to) 10 (later s)
+      by-endpoint true = on-segment _
+      by-endpoint false = refl
+  on-endpoint Way.Outbound flags = by-number (numberOf (d .servers) (addressAt p 12) (wordAt (payload p) 0) (g .servers))
+    where
+      by-number : (f : Found) → let s = onNumber (packetWith (headerOf p) (portsOf (payload p) flags)) f in number s ≡ cond (isNobody f) 10 (later s)
+      by-number Found.Nobody = refl
+      by-number (Found.At i) = on-segment _
+
+  abbrev seenOf : Transport → Seen
+  seenOf t = onReading way g (d .servers) (withTransport (headerOf p) t)
+
+  abbrev past9 : Seen → ℕ
+  past9 s = cond (isElsewhere way g (d .servers) p) 10 (later s)
+
+  -- 9
+  on-transport : let s = seenOf (readTransport (g .protocol) (payload p)) in number s ≡ cond (transportMalformed (g .protocol) (payload p)) 9 (past9 s)
+  on-transport = by-tests (eqb (g .protocol) 6) (tcpMalformed (payload p)) (udpMalformed (payload p))
+    where
+      by-tests : (tcp a b : Bool)
+          → let s = seenOf (cond tcp (cond a Transport.Malformed (Transport.Carried (portsOf (payload p) (flagsOf (getD (payload p) 13 0))))) (cond b Transport.Malformed (Transport.Carried (portsOf (payload p) noFlags)))) in
+          number s ≡ cond (cond tcp a b) 9 (past9 s)
+      by-tests true true b = refl
+      by-tests true false b = on-endpoint way _
+      by-tests false a true = refl
+      by-tests false a false = on-endpoint way _
+
+  -- 8
+  on-own : (own : Bool) → let s = onReading way g (d .servers) (cond (not own) (Reading.Refused Fault.OtherProtocol) (readPayload (g .protocol) (headerOf p) p)) in
+      number s ≡ cond (not own) 8 (cond (transportMalformed (g .protocol) (payload p)) 9 (past9 s))
+  on-own false = refl
+  on-own true = on-transport
+
+  -- 6 and 7
+  on-header : (a b : Bool)
+      → let s = onReading way g (d .servers) (onHeader (g .protocol) p (cond a (HeaderReading.Refused Fault.MalformedHeader) (cond b (HeaderReading.Refused Fault.Fragment) (HeaderReading.Read (headerOf p))))) in
+      number s ≡ cond a 6 (cond b 7 (cond (not (eqb (getD p 9 0) (g .protocol))) 8 (cond (transportMalformed (g .protocol) (payload p)) 9 (past9 s))))
+  on-header true b = refl
+  on-header false true = refl
+  on-header false false = on-own (eqb (getD p 9 0) (g .protocol))
+
+  sound-exactly : numberGiven (packetOf way d row p now .answer) ≡ lowestFailing (packetTests way d row p now)
+  unfolding packetOf packetHeld segmentRead readPacket
+  sound-exactly = rw sound (on-header (broken p) (fragment p))
+
+packet-exactly : (way : Way) (d : Director) (row p : List ℕ) (now : ℕ)
+    → numberGiven (packetOf way d row p now .answer) ≡ lowestFailing (packetTests way d row p now)
+unfolding packetOf
+packet-exactly way d row p now =
+    ⊎-elim (sound-exactly way d row p now) (λ (e : soundOf d row ≡ false). rw e) (truth (soundOf d row))
+
+pub exactly : (s : State) (c : Call) → numberGiven (called s c .answer) ≡ lowestFailing (tests s c)
+exactly s (setUp g given) = setup-exactly (s .director) (s .row) g given
+exactly s (setWeight k w) = weight-exactly (s .director) (s .row) k w
+exactly s (count k) = count-exactly (s .director) (s .row) k
+exactly s (tick now) = tick-exactly (s .director) (s .row) now
+exactly s (packet way p now) = packet-exactly way (s .director) (s .row) p now
