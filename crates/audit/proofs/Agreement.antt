@@ -69,7 +69,7 @@ once d l given es t address port =
 
 -- 1. The servers stay where they are
 
-ends-lowered : (n : ℕ) (q : Slot → Bool) (l : List Slot) (servers : List Server) → SameEnds n (loweredBy q l servers) servers
+pub ends-lowered : (n : ℕ) (q : Slot → Bool) (l : List Slot) (servers : List Server) → SameEnds n (loweredBy q l servers) servers
 unfolding loweredBy
 ends-lowered n q [] servers = record { address = λ i h. refl; port = λ i h. refl }
 ends-lowered n q (s ∷ l) servers =

@@ -25,7 +25,7 @@ use Rattle.director.specs.State.{refusalNumber, keepsClock, Lent, lent, Held, R
 use Rattle.director.specs.Judge.{settingsJudged, soundOf}
 use Rattle.director.specs.Setup.{onVerdict, setupOf}
 use Rattle.director.specs.Control.{numberJudged, onWeight, weightOf, onCount, countCallOf}
-use Rattle.director.specs.Tick.{settled, settledSlots, settledLent, tickOnClock, tickOnSound, tickOf}
+use Rattle.director.specs.Tick.{settledSlots, tickOnClock, tickOnSound, tickOf}
 use Rattle.director.specs.Segment.{segmentRead}
 use Rattle.director.specs.Decide.{decided}
 use Rattle.director.specs.Carry.{carriedOut}
@@ -35,7 +35,7 @@ use Rattle.director.proofs.Settled.{settled-sound}
 use Rattle.director.proofs.Refusals.{EarlyVerdict, EarlySeen, settings-early, read-early}
 use Rattle.director.proofs.Decisions.{Grounded, decided-grounded}
 use Rattle.audit.specs.Calls.{Call, setUp, setWeight, count, tick, packet, State, called}
-use Rattle.audit.specs.Demand1.{numberGiven, Left, packetIn, settledAt, LeftSettled, RefusalClaim, Demand1}
+use Rattle.audit.specs.Demand1.{numberGiven, Left, packetIn, settledAt, LeftSettled, Demand1}
 use Rattle.audit.proofs.Numbers.{numbers-agree}
 use Rattle.audit.proofs.Exactly.{exactly}
 

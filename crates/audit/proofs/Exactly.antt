@@ -1,7 +1,7 @@
 -- Each call gives the number of the lowest-placed of its tests that fails, and 0 where none does. Assumes nothing.
 use Prim.Native.Nat.{ℕ}
 use mathlib.Core.Bool.{Bool, true, false, cond, not, _&&_}
-use mathlib.Core.List.{List, [], _∷_}
+use mathlib.Core.List.{List, []}
 use mathlib.Core.Logic.{⊎-elim}
 use mathlib.Core.Path.{_≡_, refl, _∙_}
 use borrow.Author.Tests.{ltb-false}
@@ -17,10 +17,9 @@ use Rattle.checksum.specs.Ones.{wordAt}
 use Rattle.packet.specs.Bytes.{addressAt, payload}
 use Rattle.packet.specs.Reading.{broken, fragment, tcpMalformed, udpMalformed, flagsOf, noFlags, headerOf, portsOf, packetWith, readTransport, withTransport, readPayload, onHeader, readPacket}
 use Rattle.servers.specs.declared.Server.{Server}
-use Rattle.servers.specs.declared.ServerNo.{ServerNo}
 use Rattle.servers.specs.declared.Found.{Found}
 use Rattle.servers.specs.declared.rules.Rule.{Rule}
-use Rattle.servers.specs.Rules.{allKeep, numberOf}
+use Rattle.servers.specs.Rules.{allKeep, isNobody, numberOf}
 use Rattle.scheduler.specs.declared.walk.Picked.{Picked}
 use Rattle.scheduler.specs.ByNumber.{pickOf}
 use Rattle.scheduler.specs.Weights.{noWeight}
@@ -36,7 +35,6 @@ use Rattle.director.specs.declared.state.Director.{Director}
 use Rattle.director.specs.declared.state.Refusal.{Refusal}
 use Rattle.director.specs.declared.state.Way.{Way}
 use Rattle.director.specs.declared.judge.Verdict.{Verdict}
-use Rattle.director.specs.declared.segment.Sender.{Sender}
 use Rattle.director.specs.declared.segment.Segment.{Segment}
 use Rattle.director.specs.declared.segment.Seen.{Seen}
 use Rattle.director.specs.declared.decide.Decision.{Decision}
@@ -45,16 +43,16 @@ use Rattle.director.specs.State.{Lent, lent, Result, refusalNumber}
 use Rattle.director.specs.Judge.{sizesRight, serviceRight, settingsJudged, soundOf}
 use Rattle.director.specs.Setup.{onVerdict, setupOf}
 use Rattle.director.specs.Control.{numberJudged, onWeight, weightOf, onCount, countCallOf}
-use Rattle.director.specs.Tick.{settled, settledSlots, settledLent, tickOnSound, tickOf}
+use Rattle.director.specs.Tick.{settled, settledSlots, tickOnSound, tickOf}
 use Rattle.director.specs.Segment.{inboundSegment, onNumber, onWay, onReading, segmentRead}
-use Rattle.director.specs.Decide.{opensBy, opens, belongs, onRst, onPresent, onPick, onRoom, onAbsent, onClient, decided}
+use Rattle.director.specs.Decide.{opens, belongs, onRst, onPresent, onPick, onRoom, onClient, decided}
 use Rattle.director.specs.Carry.{carriedOut}
-use Rattle.director.specs.Packets.{routed, onClock, onSeen, packetHeld, packetOnSound, packetOf}
+use Rattle.director.specs.Packets.{routed, onClock, onSeen, packetHeld, packetOf}
 use Rattle.director.proofs.Sound.{sound-parts}
 use Rattle.director.proofs.Settled.{settled-sound}
 use Rattle.director.proofs.Decisions.{others-open-none, scheduler-known}
 use Rattle.audit.specs.Calls.{Call, setUp, setWeight, count, tick, packet, State, called}
-use Rattle.audit.specs.Demand1.{lowestFailing, setupTests, numberTests, tickTests, transportMalformed, isNobody, isElsewhere, isPresent, isIts, routeTests, seenTests, packetTests, tests, numberGiven}
+use Rattle.audit.specs.Demand1.{lowestFailing, setupTests, numberTests, tickTests, transportMalformed, isElsewhere, isPresent, isIts, routeTests, seenTests, packetTests, tests, numberGiven}
 
 -- 1. Setup, weight, count and tick
 

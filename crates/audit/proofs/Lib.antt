@@ -9,3 +9,6 @@ pub mod Run
 pub mod Examples
 pub mod Exactly
 pub mod Demand1
+pub mod Published
+pub mod Rewriting
+pub mod Demand2

@@ -22,11 +22,15 @@ pub data Call : Type 0 where
   tick : ℕ → Call
   packet : Way → List ℕ → ℕ → Call
 
--- the numbers of a call fit their types, as they do in the code
-abbrev pub Fits : Call → Type 0
-Fits (setUp g given) =
+-- addresses and ports fit their types, as they do in the code
+abbrev pub EndsFit : Service → List Server → Type 0
+EndsFit g servers =
     (g .address < 4294967296) × (g .port < 65536)
-    × ((i : ℕ) → (serverAt given i .address < 4294967296) × (serverAt given i .port < 65536))
+    × ((i : ℕ) → (serverAt servers i .address < 4294967296) × (serverAt servers i .port < 65536))
+
+-- the numbers of a call fit their types
+abbrev pub Fits : Call → Type 0
+Fits (setUp g given) = EndsFit g given
 Fits (setWeight k w) = Unit {0}
 Fits (count k) = Unit {0}
 Fits (tick now) = Unit {0}

@@ -10,9 +10,8 @@ use Rattle.checksum.specs.Ones.{wordAt}
 use Rattle.packet.specs.Bytes.{addressAt, payload}
 use Rattle.packet.specs.Reading.{broken, fragment, tcpMalformed, udpMalformed}
 use Rattle.servers.specs.declared.Server.{Server}
-use Rattle.servers.specs.declared.Found.{Found}
 use Rattle.servers.specs.declared.rules.Rule.{Rule}
-use Rattle.servers.specs.Rules.{allKeep, numberOf}
+use Rattle.servers.specs.Rules.{allKeep, isNobody, numberOf}
 use Rattle.scheduler.specs.Weights.{noWeight}
 use Rattle.table.specs.declared.slot.Slot.{Slot}
 use Rattle.table.specs.declared.find.Found.{Found as Place}
@@ -66,10 +65,6 @@ tickTests d row now = given 15 (not (soundOf d row)) ∷ given 11 (ltb now (d .c
 -- 9: the transport part is malformed (SCOPE 4.9)
 abbrev pub transportMalformed : ℕ → List ℕ → Bool
 transportMalformed protocol t = cond (eqb protocol 6) (tcpMalformed t) (udpMalformed t)
-
-abbrev pub isNobody : Found → Bool
-isNobody Found.Nobody = true
-isNobody (Found.At i) = false
 
 -- 10: "inbound: destination is not the virtual address and port. Outbound: source is no server's address and port" (SCOPE 4.10)
 abbrev pub isElsewhere : Way → Service → List Server → List ℕ → Bool

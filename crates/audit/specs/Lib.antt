@@ -4,3 +4,4 @@ pub mod Claim
 pub mod Run
 pub mod Examples
 pub mod Demand1
+pub mod Demand2

@@ -53,11 +53,12 @@ pub record Its (l : List Slot) (m : Segment) (k : ℕ) (rst : Bool) : Type 0 whe
   pub belongs : belongs (m .sender) (getD l k freeSlot .server) ≡ true
   pub flag : m .flags .rst ≡ rst
 
--- opened: the client has no connection, the packet opens one, slot k is the lowest free one, the server exists, the walk is in range
+-- opened: the client has no connection, the packet opens one, slot k is the lowest free one, the server is the pick and exists, the walk is in range
 pub record CanOpen (d : Director) (l : List Slot) (m : Segment) (k i : ℕ) (walk : Walk) : Type 0 where
   pub absent : firstFrom (ofClient (m .address) (m .port)) 0 l ≡ Found.Nothing
   pub opens : opens (d .service .protocol) m ≡ true
   pub lowest : IsLowest isUnused l k
+  pub picked : pickOf (d .service .scheduler) (d .servers) (d .service .servers) (d .walk) ≡ Picked.Server (record { 0 = i }) walk
   pub server : i < d .service .servers
   pub range : inRange (d .service .scheduler) (d .servers) (d .service .servers) walk ≡ true
 
@@ -126,15 +127,16 @@ module _ (d : Director) (row : List ℕ) (sound : Sound d row) (m : Segment) whe
 
       -- the pick is an existing server, and leaves the walk in range
       by-pick : (k : SlotNo) → IsLowest isUnused l (k .0)
-          → (q : Picked) → PickFound (d .service .scheduler) (d .servers) (d .service .servers) q → Goal (onPick k q)
-      by-pick k lowest Picked.Nobody found = full Refusal.NoWeight refl refl
-      by-pick k lowest (Picked.Server i walk) found =
-          record { absent = absent; opens = new; lowest = lowest; server = found .0; range = found .2 }
+          → (q : Picked) → pickOf (d .service .scheduler) (d .servers) (d .service .servers) (d .walk) ≡ q
+          → PickFound (d .service .scheduler) (d .servers) (d .service .servers) q → Goal (onPick k q)
+      by-pick k lowest Picked.Nobody e found = full Refusal.NoWeight refl refl
+      by-pick k lowest (Picked.Server i walk) e found =
+          record { absent = absent; opens = new; lowest = lowest; picked = e; server = found .0; range = found .2 }
 
       by-room : (f : Found) → firstFrom isUnused 0 l ≡ f → Goal (onRoom d f)
       by-room Found.Nothing e = full Refusal.TableFull refl refl
       by-room (Found.At k) e =
-          by-pick k (found-lowest isUnused l (k .0) e) (pickOf (d .service .scheduler) (d .servers) (d .service .servers) (d .walk))
+          by-pick k (found-lowest isUnused l (k .0) e) (pickOf (d .service .scheduler) (d .servers) (d .service .servers) (d .walk)) refl
           (pick-found (d .service .scheduler) (d .servers) (d .service .servers) (d .walk) (scheduler-known (d .service) (sound .settings .right)) (sound .range))
 
     by-absent : Goal (onAbsent d l m)

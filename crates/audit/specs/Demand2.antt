@@ -1,0 +1,108 @@
+-- Demand 2 (SCOPE 13.2): who is picked, and what rewriting makes of a packet; of every packet call. Assumes nothing: these are definitions.
+use Prim.Native.Nat.{ℕ}
+use mathlib.Core.Bool.{Bool, false}
+use mathlib.Core.List.{List}
+use mathlib.Core.Path.{_≡_}
+use lib.ListN.{take, drop}
+use Rattle.checksum.specs.Ones.{Bytes}
+use Rattle.packet.specs.declared.read.Packet.{Packet}
+use Rattle.packet.specs.declared.read.Reading.{Reading}
+use Rattle.packet.specs.declared.redirect.Side.{Side}
+use Rattle.packet.specs.Bytes.{totalLength}
+use Rattle.packet.specs.Reading.{readPacket}
+use Rattle.packet.specs.Laws.{VerifiesExactly, LeavesFresh, Kept, SameUpToTotal, withSide}
+use Rattle.servers.specs.declared.Server.{Server}
+use Rattle.servers.specs.declared.ServerNo.{ServerNo}
+use Rattle.servers.specs.Servers.{serverAt}
+use Rattle.scheduler.specs.declared.least_loaded.Load.{Load}
+use Rattle.scheduler.specs.declared.walk.Place.{Place}
+use Rattle.scheduler.specs.declared.walk.Walk.{Walk}
+use Rattle.scheduler.specs.Weights.{weightsGcd, largestOf}
+use Rattle.scheduler.specs.WeightedRoundRobin.{levelAt, reaches}
+use Rattle.scheduler.specs.Ring.{nextOf}
+use Rattle.scheduler.specs.Laws.{IsNext, IsFirst, IsLeast}
+use Rattle.table.specs.Slots.{slots}
+use Rattle.director.specs.declared.state.Director.{Director}
+use Rattle.director.specs.declared.state.Change.{Change}
+use Rattle.director.specs.declared.state.Answer.{Answer}
+use Rattle.director.specs.declared.state.Way.{Way}
+use Rattle.director.specs.State.{Result}
+use Rattle.director.specs.Tick.{settled}
+use Rattle.director.specs.Packets.{packetOf}
+use Rattle.audit.specs.Calls.{EndsFit}
+use Rattle.audit.specs.Claim.{isOpened}
+
+-- 1. Rewriting
+
+-- "Inbound rewriting sets destination address and port to the server's. Outbound sets source address and port to the virtual ones." (SCOPE 7.4)
+abbrev pub sideSet : Way → Side
+sideSet Way.Inbound = Side.Destination
+sideSet Way.Outbound = Side.Source
+
+abbrev pub addressSet : Way → Director → ℕ → ℕ
+addressSet Way.Inbound d k = serverAt (d .servers) k .address
+addressSet Way.Outbound d k = d .service .address
+
+abbrev pub portSet : Way → Director → ℕ → ℕ
+portSet Way.Inbound d k = serverAt (d .servers) k .port
+portSet Way.Outbound d k = d .service .port
+
+-- an accepted packet p of server k, that left as q
+pub record Rewritten (way : Way) (d : Director) (k : ℕ) (p q : List ℕ) : Type 0 where
+  -- it was read, and is read again with that address and port, and all else as it was
+  pub read-in : Packet
+  pub as-in : readPacket (d .service .protocol) p ≡ Reading.Taken read-in
+  pub as-out : readPacket (d .service .protocol) q ≡ Reading.Taken (withSide (sideSet way) (addressSet way d k) (portSet way d k) read-in)
+  -- "A valid checksum leaves as a fresh calculation would give it." (SCOPE 7.8)
+  pub fresh : LeavesFresh (d .service .protocol) p q
+  -- "the outgoing one verifies exactly if the incoming one did (UDP 0 apart)" (SCOPE 7.7)
+  pub exact : VerifiesExactly (d .service .protocol) p q
+  -- no byte is written but that address, that port and the two checksums (SCOPE 7.4, 7.5)
+  pub kept : Kept (d .service .protocol) (sideSet way) p q
+
+-- two results that are alike in all but the packet's bytes past a place
+pub record Alike (total : ℕ) (r r′ : Result) : Type 0 where
+  pub answer : r′ .answer ≡ r .answer
+  pub director : r′ .director ≡ r .director
+  pub row : r′ .lent .table ≡ r .lent .table
+  pub packet : take total (r′ .lent .packet) ≡ take total (r .lent .packet)
+
+-- 2. Picking
+
+-- server i is whom scheduler k picks among the first n servers s, from the walk w to the walk w′
+pub record Published (k : ℕ) (s : List Server) (n : ℕ) (w : Walk) (i : ServerNo) (w′ : Walk) : Type 0 where
+  -- round-robin: "picked is the next number in the ring with weight above 0" (SCOPE 10.3), after the last pick
+  pub scheduler1 : k ≡ 1 → (last : ServerNo) → w .place ≡ Place.At last → IsNext s n (last .0) (i .0)
+  -- weighted round-robin: "The first server with weight at least cw is picked." (SCOPE 10.5)
+  pub scheduler2 : k ≡ 2 → IsFirst (levelAt (weightsGcd s n) (largestOf s n)) (reaches s) n n (nextOf n (w .place)) (w .level) i w′
+  -- least-connection: "the smallest count among weights above 0; ties to the lowest number" (SCOPE 10.8)
+  pub scheduler3 : k ≡ 3 → IsLeast Load.Count s n (i .0)
+  -- weighted least-connection: "the smallest count/weight among weights above 0, compared by cross products; ties to the lowest number" (SCOPE 10.9)
+  pub scheduler4 : k ≡ 4 → IsLeast Load.PerWeight s n (i .0)
+
+-- the answer tells of an opening
+abbrev pub opens : Answer → Bool
+opens Answer.Done = false
+opens (Answer.Number n) = false
+opens (Answer.Passed i change) = isOpened change
+opens (Answer.Refused why) = false
+
+-- 3. The claim
+
+-- of a packet call in the state d and its row, that settles r
+pub record PacketClaim (way : Way) (d : Director) (row p : List ℕ) (now : ℕ) (r : Result) : Type 0 where
+  pub rewritten : (i : ServerNo) (change : Change) → r .answer ≡ Answer.Passed i change → Rewritten way d (i .0) p (r .lent .packet)
+  -- an opening goes to the pick, from the counts that are left once the idle connections are removed
+  pub picked : (i : ServerNo) → r .answer ≡ Answer.Passed i Change.Opened
+      → Published (d .service .scheduler) (settled d (slots row) now .servers) (d .service .servers) (d .walk) i (r .director .walk)
+  -- "the walk moves in an opening only" (SCOPE 10.2)
+  pub unmoved : opens (r .answer) ≡ false → r .director .walk ≡ d .walk
+  -- "Bytes past the total length are neither read nor written." (SCOPE 7.3), whatever the answer: they stay, and decide nothing
+  pub unwritten : drop (totalLength p) (r .lent .packet) ≡ drop (totalLength p) p
+  pub unread : (p′ : List ℕ) → SameUpToTotal p p′ → Alike (totalLength p) r (packetOf way d row p′ now)
+
+-- Demand 2: of every packet call, whatever state, row, packet and clock it is handed
+abbrev pub Demand2 : Type 0
+Demand2 =
+    (way : Way) (d : Director) (row p : List ℕ) (now : ℕ) → EndsFit (d .service) (d .servers) → Bytes p
+    → PacketClaim way d row p now (packetOf way d row p now)
