@@ -15,12 +15,12 @@ use Rattle.director.specs.State.{changesNothing, lent}
 use Rattle.director.specs.Judge.{settingsJudged, soundOf}
 use Rattle.director.specs.Setup.{onVerdict, setupOf}
 use Rattle.director.proofs.Sound.{judged}
-use Rattle.director.proofs.Leaving.{Leaves, leaves-sound}
-use Rattle.director.proofs.Keeping.{setup-leaves, weight-leaves, count-leaves, tick-leaves}
-use Rattle.director.proofs.KeepingPackets.{packet-leaves}
-use Rattle.audit.specs.Calls.{Call, setUp, setWeight, count, tick, packet, Fits, AllFit, State, called, next, after, recordOf}
+use Rattle.director.proofs.Leaving.{leaves-sound}
+use Rattle.director.proofs.Keeping.{setup-leaves}
+use Rattle.audit.specs.Calls.{Call, setUp, Fits, AllFit, packetIn, State, called, next, after, recordOf}
 use Rattle.audit.specs.Book.{Book, noteSetup, note, bookOf}
 use Rattle.audit.specs.Claim.{Claim, Demand3}
+use Rattle.audit.proofs.Leaving.{called-leaves}
 use Rattle.audit.proofs.Agreement.{Agree, agreed, once, matches-new}
 use Rattle.audit.proofs.Steps.{counts, on-call}
 
@@ -29,24 +29,7 @@ record Audited (s : State) (b : Book) : Type 0 where
   sound : soundOf (s .director) (s .row) ≡ true
   agree : Agree (s .director) (slots (s .row)) b
 
--- 1. What a call leaves
-
--- the packet of a call, if it has one
-abbrev pub packetIn : Call → List ℕ
-packetIn (setUp g given) = []
-packetIn (setWeight k w) = []
-packetIn (count k) = []
-packetIn (tick now) = []
-packetIn (packet way p now) = p
-
-pub called-leaves : (s : State) (c : Call) → Fits c → Leaves (s .director) (lent (s .row) (packetIn c)) (called s c)
-called-leaves s (setUp g given) fits = setup-leaves (s .director) g given (s .row)
-called-leaves s (setWeight k w) fits = weight-leaves (s .director) (s .row) k w
-called-leaves s (count k) fits = count-leaves (s .director) (s .row) k
-called-leaves s (tick now) fits = tick-leaves (s .director) (s .row) now
-called-leaves s (packet way p now) fits = packet-leaves (s .director) (s .row) p now fits way
-
--- 2. The calls of a list
+-- 1. The calls of a list
 
 audited-call : (s : State) (b : Book) (c : Call) → Audited s b → Fits c → Audited (next s c) (note b c (called s c .answer))
 audited-call s b c a fits = record {
@@ -60,7 +43,7 @@ audited-calls : (cs : List Call) (s : State) (b : Book) → Audited s b → AllF
 audited-calls [] s b a fits = a
 audited-calls (c ∷ cs) s b a fits = audited-calls cs (next s c) (note b c (called s c .answer)) (audited-call s b c a (fits .0)) (fits .1)
 
--- 3. What agreement says
+-- 2. What agreement says
 
 claimed : (s : State) (b : Book) → Audited s b → Claim s b
 claimed s b a =
@@ -73,7 +56,7 @@ claimed s b a =
       calls = λ c. right c .claim;
     })
 
--- 4. An accepted setup
+-- 3. An accepted setup
 
 refused-done : (why : Refusal) → Answer.Refused why ≡ Answer.Done → ⊥
 refused-done why e = let z : _≡_ {A = ℕ} 0 1 = cc in omega arith

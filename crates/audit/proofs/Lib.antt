@@ -4,6 +4,7 @@ pub mod Passage
 pub mod Agreement
 pub mod Routing
 pub mod Steps
+pub mod Leaving
 pub mod Demand3
 pub mod Run
 pub mod Examples

@@ -36,6 +36,14 @@ Fits (count k) = Unit {0}
 Fits (tick now) = Unit {0}
 Fits (packet way p now) = Bytes p
 
+-- the packet that a call brings: none but a packet call brings one
+abbrev pub packetIn : Call → List ℕ
+packetIn (setUp g given) = []
+packetIn (setWeight k w) = []
+packetIn (count k) = []
+packetIn (tick now) = []
+packetIn (packet way p now) = p
+
 -- what passes from call to call: "each is handed the state and row that the one before gave back" (SCOPE 3.1)
 pub record State : Type 0 where
   pub director : Director

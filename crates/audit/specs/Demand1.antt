@@ -28,7 +28,7 @@ use Rattle.director.specs.Judge.{sizesRight, serviceRight, soundOf}
 use Rattle.director.specs.Tick.{settled, settledSlots}
 use Rattle.director.specs.Segment.{segmentRead}
 use Rattle.director.specs.Decide.{opens, belongs}
-use Rattle.audit.specs.Calls.{Call, setUp, setWeight, count, tick, packet, State, called}
+use Rattle.audit.specs.Calls.{Call, setUp, setWeight, count, tick, packet, Fits, packetIn, State, called}
 
 -- 1. The tests of a call, in their order
 
@@ -128,14 +128,6 @@ pub record Left (s : State) (p : List ℕ) (r : Result) : Type 0 where
   pub director : r .director ≡ s .director
   pub lent : r .lent ≡ lent (s .row) p
 
--- the packet that a call brings: none but a packet call brings one
-abbrev pub packetIn : Call → List ℕ
-packetIn (setUp g servers) = []
-packetIn (setWeight k w) = []
-packetIn (count k) = []
-packetIn (tick now) = []
-packetIn (packet way p now) = p
-
 -- "the clock is stored and idle connections are removed" (SCOPE 5.4)
 abbrev pub settledAt : State → ℕ → State
 settledAt s now = record {
@@ -160,6 +152,6 @@ pub record RefusalClaim (s : State) (c : Call) (r : Result) : Type 0 where
   -- "12, 13 and 14 keep that and change nothing else" (SCOPE 5.4)
   pub to14 : (n : ℕ) → 12 ≤ n → n ≤ 14 → numberGiven (r .answer) ≡ n → LeftSettled s c r
 
--- Demand 1: of each of the six calls, whatever it is handed
+-- Demand 1: of each of the six calls, whatever state, row, packet bytes, clock and numbers it is handed
 abbrev pub Demand1 : Type 0
-Demand1 = (s : State) (c : Call) → RefusalClaim s c (called s c)
+Demand1 = (s : State) (c : Call) → Fits c → RefusalClaim s c (called s c)

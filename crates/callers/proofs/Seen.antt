@@ -27,8 +27,8 @@ use Rattle.director.specs.Segment.{segmentRead}
 use Rattle.director.specs.Decide.{decided}
 use Rattle.director.specs.Carry.{carriedOut}
 use Rattle.director.specs.Packets.{routed, onClock, onSeen, packetHeld, packetOnSound, packetOf}
-use Rattle.audit.specs.Calls.{Call, setUp, setWeight, count, tick, packet, Fits, State as DirectorState, called}
-use Rattle.audit.proofs.Demand3.{packetIn, called-leaves}
+use Rattle.audit.specs.Calls.{Call, setUp, setWeight, count, tick, packet, Fits, packetIn, State as DirectorState, called}
+use Rattle.audit.proofs.Leaving.{called-leaves}
 use Rattle.nidhaaguf.specs.Reply.{toldBy}
 use Rattle.nidhaaguf.proofs.Handed.{handed-on}
 use Rattle.callers.specs.Calls.{Handed, decodedState, answerOf, seen}
