@@ -33,7 +33,7 @@ use Rattle.audit.proofs.Exactly.{exactly}
 -- 1. The numbers that keep the clock
 
 -- 12, 13 and 14, and no others
-abbrev Other : ℕ → Type 0
+abbrev pub Other : ℕ → Type 0
 Other n = (n ≢ 12) × (n ≢ 13) × (n ≢ 14)
 
 neither : (a b : Bool) → (a || b) ≡ false → (a ≡ false) × (b ≡ false)
@@ -56,6 +56,12 @@ given-why Answer.Done h = absurd (omega arith)
 given-why (Answer.Number n) h = absurd (omega arith)
 given-why (Answer.Passed i change) h = absurd (omega arith)
 given-why (Answer.Refused why) h = (why, refl, refl)
+
+-- any other number is of a refusal that changes nothing
+pub nothing-changed : (a : Answer) (n : ℕ) → 1 ≤ n → Other n → numberGiven a ≡ n → changesNothing a ≡ true
+nothing-changed a n low other e =
+    let (why, answer, number) = given-why a (omega arith) in
+    rw (answer, others-back why n (number ∙ e) other)
 
 -- 2. What 12 to 14 leave
 
@@ -134,7 +140,5 @@ demand1 s c fits = record {
   where
     unchanged : (n : ℕ) → 1 ≤ n → Other n → numberGiven (called s c .answer) ≡ n → Left s (packetIn c) (called s c)
     unchanged n low other e =
-        let (why, answer, number) = given-why (called s c .answer) (omega arith) in
-        let nothing : changesNothing (called s c .answer) ≡ true = rw (answer, others-back why n (number ∙ e) other) in
-        let (director, lent) = called-leaves s c fits .back nothing in
+        let (director, lent) = called-leaves s c fits .back (nothing-changed (called s c .answer) n low other e) in
         record { director = director; lent = lent }

@@ -1,2 +1,3 @@
 pub mod Seen
 pub mod Demand3
+pub mod EachCall

@@ -1,0 +1,41 @@
+-- Demands 1 and 2 as a program in C or Rust sees them: what it sees of a call is the director's result. Assumes nothing.
+use Prim.Native.Nat.{ℕ, _≤_}
+use mathlib.Core.Bool.{true}
+use mathlib.Core.Path.{_≡_, refl, sym, ap, subst, _∙_}
+use mathlib.Core.Logic.{_≢_}
+use native.Mathlib.Omega.{arith}
+use Rattle.director.specs.declared.state.Answer.{Answer}
+use Rattle.director.specs.State.{changesNothing}
+use Rattle.audit.specs.Calls.{Call, packet, called}
+use Rattle.audit.specs.Demand1.{RefusalClaim, numberGiven}
+use Rattle.audit.specs.Demand2.{PacketClaim}
+use Rattle.audit.proofs.Demand1.{Other, demand1, nothing-changed}
+use Rattle.audit.proofs.Demand2.{demand2}
+use Rattle.nidhaaguf.specs.Reply.{toldBy}
+use Rattle.callers.specs.Calls.{Handed, decodedState, replyTo, seen}
+use Rattle.callers.specs.Claim.{Demand1, Demand2}
+use Rattle.callers.proofs.Seen.{seen-called}
+
+-- a reply's refusal is the number that is given
+told-given : (a : Answer) → toldBy a .refusal ≡ numberGiven a
+told-given Answer.Done = refl
+told-given (Answer.Number n) = refl
+told-given (Answer.Passed i change) = refl
+told-given (Answer.Refused why) = refl
+
+pub demand1-seen : Demand1
+demand1-seen h c fits = record {
+  claim = subst (RefusalClaim (decodedState h) c) (sym (seen-called h c fits)) (demand1 (decodedState h) c fits);
+  to11 = λ n low high e. same n low (λ q. omega arith, λ q. omega arith, λ q. omega arith) e;
+  at15 = λ e. same 15 (omega arith) (λ q. omega arith, λ q. omega arith, λ q. omega arith) e;
+}
+  where
+    same : (n : ℕ) → 1 ≤ n → Other n → replyTo h c .reply .refusal ≡ n → replyTo h c .reply .state ≡ h .state
+    same n low other e =
+        let a = called (decodedState h) c .answer in
+        rw (nothing-changed a n low other (sym (told-given a) ∙ e))
+
+pub demand2-seen : Demand2
+demand2-seen h way p now fits bytes =
+    let s = decodedState h in
+    subst (PacketClaim way (s .director) (s .row) p now) (sym (seen-called h (packet way p now) bytes)) (demand2 way (s .director) (s .row) p now fits bytes)
