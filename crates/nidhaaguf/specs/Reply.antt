@@ -1,7 +1,8 @@
 -- What a call gives back to C: the director's answer in numbers (SCOPE section 4), beside the state. Assumes nothing: these are definitions.
 use Prim.Native.Nat.{ℕ}
-use mathlib.Core.Bool.{cond}
+use mathlib.Core.Bool.{true, cond}
 use mathlib.Core.List.{List}
+use mathlib.Core.Path.{_≡_}
 use Rattle.director.specs.declared.state.Director.{Director}
 use Rattle.director.specs.declared.state.Answer.{Answer}
 use Rattle.director.specs.declared.state.Change.{Change}
@@ -9,7 +10,7 @@ use Rattle.director.specs.State.{refusalNumber, changesNothing, Lent, lent, Res
 use Rattle.nidhaaguf.specs.declared.state.State.{State}
 use Rattle.nidhaaguf.specs.declared.reply.Reply.{Reply}
 use Rattle.nidhaaguf.specs.declared.reply.Told.{Told}
-use Rattle.nidhaaguf.specs.State.{encoded}
+use Rattle.nidhaaguf.specs.State.{decoded, encoded}
 
 -- "one of: opened .., ended .., kept" (SCOPE 7.9)
 abbrev pub changeNumber : Change → ℕ
@@ -37,18 +38,11 @@ stateAfter given d a = cond (changesNothing a) given (encoded d)
 abbrev pub replyOf : State → Director → Answer → Reply
 replyOf given d a = beside (stateAfter given d a) (toldBy a)
 
--- The same from the handed state's place alone, as the code has it: where a refusal changes nothing, all else is the director's
--- (proofs/Handed: `as-exported`).
-
--- the director's state in plain numbers, but at another place
-abbrev pub encodedAt : Director → ℕ → State
-encodedAt d place = record { service = d .service; clock = d .clock; servers = d .servers; place = place; level = d .walk .level }
-
-abbrev pub stateAt : ℕ → Director → Answer → State
-stateAt place d a = cond (changesNothing a) (encodedAt d place) (encoded d)
-
-abbrev pub replyAt : ℕ → Director → Answer → Reply
-replyAt place d a = beside (stateAt place d a) (toldBy a)
+-- what is known of the state that was handed in where its place alone is at hand: after a refusal that changes nothing the director's is the
+-- one handed in, decoded
+pub record HandedIn (given : State) (place : ℕ) (d : Director) (a : Answer) : Type 0 where
+  pub its-place : given .place ≡ place
+  pub back : changesNothing a ≡ true → d ≡ decoded given
 
 -- everything that a call settles: its reply, and what it was lent as it leaves that
 pub record Replied : Type 0 where

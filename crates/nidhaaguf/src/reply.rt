@@ -9,7 +9,8 @@ use director::state::Director;
 use director::state::Outcome;
 ghost use mathlib.Core.Path.{_≡_};
 ghost use Rattle.director.specs.State.{changesNothing};
-ghost use Rattle.nidhaaguf.specs.Reply.{changeNumber, toldBy, stateAt, replyAt};
+ghost use Rattle.nidhaaguf.specs.declared.state.State.{State};
+ghost use Rattle.nidhaaguf.specs.Reply.{changeNumber, toldBy, stateAfter, replyOf, HandedIn};
 
 // NidhaagufAnswer: the state after a call and its answer, 816 bytes.
 #[repr(C)]
@@ -84,7 +85,7 @@ fn told_by(answer: Answer) -> Told
 // The state after a call. Where the refusal changes nothing it is the one handed in, and only the place can be another than the
 // director's: one that can't be decoded comes back too. So the place alone is handed here, and not the whole state.
 fn state_after(place: u64, director: Director, answer: Answer) -> State
-    ensures { λ r. ⌜ r ≡ stateAt place director answer ⌝ }
+    ensures { λ r. ⌜ ((given : State) → HandedIn given place director answer → r ≡ stateAfter given director answer) ⌝ }
 {
     let mut state = encode(director);
     if changes_nothing(answer) {
@@ -95,7 +96,7 @@ fn state_after(place: u64, director: Director, answer: Answer) -> State
 
 // The reply to a call that was handed a state with this place and had an outcome.
 pub fn reply_of(place: u64, outcome: Outcome) -> Reply
-    ensures { λ r. ⌜ r ≡ replyAt place (outcome .director) (outcome .answer) ⌝ }
+    ensures { λ r. ⌜ ((given : State) → HandedIn given place (outcome .director) (outcome .answer) → r ≡ replyOf given (outcome .director) (outcome .answer)) ⌝ }
 {
     let answer = outcome.answer;
     let director = outcome.director;

@@ -12,7 +12,7 @@ returns : tie.Need-returns
 returns c =
     let a = c .before .before .before .before .args in
     let met = rw (c .before .before .decode .ensures) at (c .before .count .ensures) in
-    rw (c .reply-of .ensures) (as-exported (a .state) _ _ _ _ _ met (count-leaves (decoded (a .state)) (now (a .row)) (a .number)))
+    as-exported (a .state) _ _ _ _ _ met (count-leaves (decoded (a .state)) (now (a .row)) (a .number)) _ (c .reply-of .ensures)
 
 pub nidhaaguf-count-spec : {M : Type 1} → statement M
 nidhaaguf-count-spec = tie.close (tie.spec (λ c κs. search needs) (λ c κs. search needs) (λ c κs. search needs) returns)

@@ -12,7 +12,7 @@ returns : tie.Need-returns
 returns c =
     let a = c .before .before .before .before .before .before .before .before .args in
     let met = rw (c .before .before .before .before .before .decode .ensures) at (c .before .before .before .set-up .ensures) in
-    rw (c .reply-of .ensures) (as-exported (a .state) _ _ _ _ _ met (setup-leaves (decoded (a .state)) (a .service) (a .servers .server) (now (a .row))))
+    as-exported (a .state) _ _ _ _ _ met (setup-leaves (decoded (a .state)) (a .service) (a .servers .server) (now (a .row))) _ (c .reply-of .ensures)
 
 pub nidhaaguf-set-up-spec : {M : Type 1} → statement M
 nidhaaguf-set-up-spec = tie.close (tie.spec (λ c κs. search needs) (λ c κs. search needs) (λ c κs. search needs) (λ c. search needs) returns)

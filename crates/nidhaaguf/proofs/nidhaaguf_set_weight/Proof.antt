@@ -12,7 +12,7 @@ returns : tie.Need-returns
 returns c =
     let a = c .before .before .before .before .args in
     let met = rw (c .before .before .decode .ensures) at (c .before .set-weight .ensures) in
-    rw (c .reply-of .ensures) (as-exported (a .state) _ _ _ _ _ met (weight-leaves (decoded (a .state)) (now (a .row)) (a .number) (a .weight)))
+    as-exported (a .state) _ _ _ _ _ met (weight-leaves (decoded (a .state)) (now (a .row)) (a .number) (a .weight)) _ (c .reply-of .ensures)
 
 pub nidhaaguf-set-weight-spec : {M : Type 1} → statement M
 nidhaaguf-set-weight-spec = tie.close (tie.spec (λ c κs. search needs) (λ c κs. search needs) (λ c κs. search needs) returns)

@@ -12,7 +12,7 @@ returns : tie.Need-returns
 returns c =
     let a = c .before .before .before .before .before .before .before .args in
     let met = rw (c .before .before .before .before .before .decode .ensures) at (c .before .before .before .tick .ensures) in
-    rw (c .reply-of .ensures) (as-exported (a .state) _ _ _ _ _ met (tick-leaves (decoded (a .state)) (now (a .row)) (a .clock)))
+    as-exported (a .state) _ _ _ _ _ met (tick-leaves (decoded (a .state)) (now (a .row)) (a .clock)) _ (c .reply-of .ensures)
 
 pub nidhaaguf-tick-spec : {M : Type 1} → statement M
 nidhaaguf-tick-spec = tie.close (tie.spec (λ c κs. search needs) (λ c κs. search needs) (λ c κs. search needs) (λ c. search needs) returns)

@@ -6,10 +6,12 @@ use Rattle.nidhaaguf.proofs.reply.state_after.Statement.{statement}
 use Rattle.nidhaaguf.proofs.reply.state_after.Tie as tie
 
 returns : tie.Need-returns
-returns c = rw (sym (c .before .changes-nothing .ensures) ∙ c .if1 .taken, c .before .before .encode .ensures)
+returns c given known =
+    let nothing = sym (c .before .changes-nothing .ensures) ∙ c .if1 .taken in
+    rw (nothing, c .before .before .encode .ensures, known .back nothing, ← (known .its-place))
 
 returns-2 : tie.Need-returns-2
-returns-2 c = rw (sym (c .before .changes-nothing .ensures) ∙ c .if1 .left, c .before .before .encode .ensures)
+returns-2 c given known = rw (sym (c .before .changes-nothing .ensures) ∙ c .if1 .left, c .before .before .encode .ensures)
 
 pub state-after-spec : {M : Type 1} → statement M
 state-after-spec = tie.close (tie.spec (λ c κs. search needs) (λ c κs. search needs) returns returns-2)
