@@ -2,7 +2,7 @@
 use Prim.Native.Nat.{ℕ, _<_}
 use mathlib.Core.Bool.{true, not, _&&_}
 use mathlib.Core.List.{List}
-use mathlib.Core.Path.{_≡_, refl}
+use mathlib.Core.Path.{_≡_, refl, subst}
 use native.Mathlib.Omega.{arith}
 use borrow.Author.Tests.{eqb-false, not-true}
 use lib.Dec.{eqb}
@@ -13,7 +13,7 @@ use Rattle.packet.specs.declared.read.Packet.{Packet}
 use Rattle.packet.specs.declared.read.Reading.{Reading}
 use Rattle.packet.specs.Reading.{readPacket}
 use Rattle.packet.specs.Redirect.{redirected}
-use Rattle.packet.specs.Laws.{Given}
+use Rattle.packet.specs.Laws.{Given, VerifiesExactly, LeavesFresh, Kept, withSide}
 use Rattle.packet.proofs.Redirections.{laws}
 use Rattle.servers.specs.declared.Server.{Server}
 use Rattle.servers.specs.declared.ServerNo.{ServerNo}
@@ -76,10 +76,11 @@ module _ (d : Director) (row p : List ℕ) (a : Accepted (d .service) (d .server
         record {
           read-in = r;
           as-in = taken;
-          as-out = rw (← e) (laws .read-again protocol side (addressSet way d k) (portSet way d k) p r to);
-          fresh = rw (← e) (laws .leaves-fresh protocol side (addressSet way d k) (portSet way d k) p r to some any);
-          exact = rw (← e) (laws .verifies-exactly protocol side (addressSet way d k) (portSet way d k) p r to);
-          kept = rw (← e) (laws .kept protocol side (addressSet way d k) (portSet way d k) p can);
+          as-out = subst (λ (x : List ℕ). readPacket protocol x ≡ Reading.Taken (withSide side (addressSet way d k) (portSet way d k) r)) e
+              (laws .read-again protocol side (addressSet way d k) (portSet way d k) p r to);
+          fresh = subst (LeavesFresh protocol p) e (laws .leaves-fresh protocol side (addressSet way d k) (portSet way d k) p r to some any);
+          exact = subst (VerifiesExactly protocol p) e (laws .verifies-exactly protocol side (addressSet way d k) (portSet way d k) p r to);
+          kept = subst (Kept protocol side p) e (laws .kept protocol side (addressSet way d k) (portSet way d k) p can);
         }
 
     inbound : Goal Way.Inbound (record { address = r .source; port = r .transport .source; sender = Sender.Client; flags = r .transport .flags })
