@@ -90,7 +90,7 @@ opens (Answer.Refused why) = false
 -- 3. The claim
 
 -- of a packet call in the state d and its row, that settles r
-pub record PacketClaim (way : Way) (d : Director) (row p : List ℕ) (now : ℕ) (r : Result) : Type 0 where
+pub record PacketCallClaim (way : Way) (d : Director) (row p : List ℕ) (now : ℕ) (r : Result) : Type 0 where
   pub rewritten : (i : ServerNo) (change : Change) → r .answer ≡ Answer.Passed i change → Rewritten way d (i .0) p (r .lent .packet)
   -- an opening goes to the pick, from the counts that are left once the idle connections are removed
   pub picked : (i : ServerNo) → r .answer ≡ Answer.Passed i Change.Opened
@@ -105,4 +105,4 @@ pub record PacketClaim (way : Way) (d : Director) (row p : List ℕ) (now : ℕ)
 abbrev pub Demand2 : Type 0
 Demand2 =
     (way : Way) (d : Director) (row p : List ℕ) (now : ℕ) → EndsFit (d .service) (d .servers) → Bytes p
-    → PacketClaim way d row p now (packetOf way d row p now)
+    → PacketCallClaim way d row p now (packetOf way d row p now)

@@ -8,7 +8,7 @@ use Rattle.director.specs.declared.state.Answer.{Answer}
 use Rattle.director.specs.State.{changesNothing}
 use Rattle.audit.specs.Calls.{Call, packet, called}
 use Rattle.audit.specs.Demand1.{RefusalClaim, numberGiven}
-use Rattle.audit.specs.Demand2.{PacketClaim}
+use Rattle.audit.specs.Demand2.{PacketCallClaim}
 use Rattle.audit.proofs.Demand1.{Other, demand1, nothing-changed}
 use Rattle.audit.proofs.Demand2.{demand2}
 use Rattle.nidhaaguf.specs.Reply.{toldBy}
@@ -38,4 +38,4 @@ demand1-seen h c fits = record {
 pub demand2-seen : Demand2
 demand2-seen h way p now fits bytes =
     let s = decodedState h in
-    subst (PacketClaim way (s .director) (s .row) p now) (sym (seen-called h (packet way p now) bytes)) (demand2 way (s .director) (s .row) p now fits bytes)
+    subst (PacketCallClaim way (s .director) (s .row) p now) (sym (seen-called h (packet way p now) bytes)) (demand2 way (s .director) (s .row) p now fits bytes)

@@ -15,7 +15,7 @@ use Rattle.audit.specs.Calls.{Call, setUp, packet, EndsFit, Fits, AllFit}
 use Rattle.audit.specs.Book.{Book, ofClient, names, bookOf}
 use Rattle.audit.specs.Claim.{CallClaim}
 use Rattle.audit.specs.Demand1.{RefusalClaim}
-use Rattle.audit.specs.Demand2.{PacketClaim}
+use Rattle.audit.specs.Demand2.{PacketCallClaim}
 use Rattle.callers.specs.Calls.{Handed, decodedState, replyTo, afterCalls, seen, seenRecord}
 
 -- Demand 1, of a call: which `refusal` it gives, exactly, and what a refused call leaves
@@ -32,7 +32,7 @@ Demand1 = (h : Handed) (c : Call) → Fits c → Refusals h c
 abbrev pub Demand2 : Type 0
 Demand2 =
     (h : Handed) (way : Way) (p : List ℕ) (now : ℕ) → EndsFit (h .state .service) (h .state .servers) → Bytes p
-    → PacketClaim way (decodedState h .director) (h .row) p now (seen h (packet way p now))
+    → PacketCallClaim way (decodedState h .director) (h .row) p now (seen h (packet way p now))
 
 -- Demand 3: what holds after every call of a list, of what the program has in its hands and of the book of what it saw; and of whatever call comes next
 pub record Claim (h : Handed) (b : Book) : Type 0 where
