@@ -7,3 +7,4 @@ pub mod Steps
 pub mod Demand3
 pub mod Run
 pub mod Examples
+pub mod Refusals

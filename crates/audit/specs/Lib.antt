@@ -3,5 +3,11 @@ pub mod Book
 pub mod Claim
 pub mod Cases
 pub mod Samples
+pub mod SetupCases
+pub mod PacketCases
+pub mod ConnectionCases
+pub mod SoundnessCases
+pub mod OrderCases
+pub mod Refusals
 pub mod Run
 pub mod Examples
