@@ -7,4 +7,5 @@ pub mod Steps
 pub mod Demand3
 pub mod Run
 pub mod Examples
+pub mod Forwarding
 pub mod Refusals

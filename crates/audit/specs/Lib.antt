@@ -3,6 +3,7 @@ pub mod Book
 pub mod Claim
 pub mod Cases
 pub mod Samples
+pub mod Forwarding
 pub mod SetupCases
 pub mod PacketCases
 pub mod ConnectionCases
