@@ -54,6 +54,12 @@ belongingCases =
     ∷ [])
     ∷ each (refusal (oneConnection 17 1 []))
     ((udpFromClient 40000 100, 0) ∷ (udpFromServer0 40000 100, 0) ∷ (udpFromServer1 40000 100, 12) ∷ (udpFromServer0 40001 100, 12) ∷ [])
+    -- a client 0.0.0.0:0 is not the client of a free slot; a SYN opens for it
+    ∷ each (refusal (noConnection 6 1 1 1))
+    ((packet Way.Inbound (tcpPacket 0x78C6 0x00000000 0xC000020A (ports 0 5432) ack) 100, 12)
+    ∷ (packet Way.Inbound (tcpPacket 0x78C6 0x00000000 0xC000020A (ports 0 5432) syn) 100, 0)
+    ∷ (packet Way.Outbound (tcpPacket 0x30CB 0x0A010005 0x00000000 (ports 6432 0) ack) 100, 12)
+    ∷ [])
     -- whatever its flags: "A SYN on a present connection is an ordinary packet of it, in any phase." (SCOPE 8.11)
     ∷ each (λ flags. refusal (oneConnection 6 1 []) (fromClient 40000 flags 100)) ((0, 0) ∷ (fin, 0) ∷ (syn, 0) ∷ (rst, 0) ∷ [])
     ∷ each (λ flags. refusal (oneConnection 6 1 []) (fromServer0 40000 flags 100)) ((0, 0) ∷ (fin, 0) ∷ (syn, 0) ∷ (rst, 0) ∷ [])
@@ -70,12 +76,12 @@ idleCases =
     ∷ each (λ now. refusal (oneConnection 17 1 []) (udpFromServer0 40000 now)) ((399, 0) ∷ (400, 12) ∷ [])
     ∷ []
 
--- "would open, and no slot is free" (SCOPE 4.13): a second client, with one slot, which becomes free by and by, and with two
+-- "would open, and no slot is free" (SCOPE 4.13): a second client, where the one slot is used, where its connection has become idle, where there are two
 abbrev pub fullCases : List Case
 fullCases =
     each (λ now. refusal (oneConnection 6 1 []) (fromClient 40001 syn now)) ((100, 13) ∷ (999, 13) ∷ (1000, 0) ∷ [])
     ∷ each (λ now. refusal (oneConnection 17 1 []) (udpFromClient 40001 now)) ((100, 13) ∷ (399, 13) ∷ (400, 0) ∷ [])
-    ∷ each (λ others. refusal (oneConnection 6 1 others) (fromClient 40001 syn 100)) (([], 13) ∷ (freeSlot ∷ [], 0) ∷ [])
+    ∷ each (λ free. refusal (oneConnection 6 1 free) (fromClient 40001 syn 100)) (([], 13) ∷ (freeSlot ∷ [], 0) ∷ [])
     ∷ []
 
 -- "would open, a slot is free, and every weight is 0" (SCOPE 4.14), for each scheduler

@@ -1,5 +1,5 @@
--- Whole packets as they come and as they leave, beside P11 (SCOPE 7.3 to 7.8): the other way, with IP options, in UDP. Each checksum was calculated afresh,
--- and none is an edit of another. Assumes nothing: these are definitions.
+-- Whole packets as they come and as they leave, beside P11 (SCOPE 7.3 to 7.8): outbound, with IP options, in UDP. The checksums were calculated afresh, outside
+-- the prover. Assumes nothing: these are definitions.
 use Prim.Native.Nat.{ℕ}
 use mathlib.Core.List.{List, [], _∷_}
 use Rattle.director.specs.declared.state.Way.{Way}
