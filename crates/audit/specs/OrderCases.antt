@@ -3,21 +3,19 @@
 use Prim.Native.Nat.{ℕ}
 use mathlib.Core.List.{List, [], _∷_}
 use Rattle.servers.specs.declared.Server.{Server}
-use Rattle.scheduler.specs.ByNumber.{startOf}
 use Rattle.table.specs.declared.slot.Slot.{Slot}
-use Rattle.table.specs.Slots.{freeSlot, words}
+use Rattle.table.specs.Slots.{freeSlot}
 use Rattle.director.specs.declared.state.Service.{Service}
 use Rattle.director.specs.declared.state.Way.{Way}
 use Rattle.audit.specs.Calls.{Call, setWeight, count, tick, packet, State}
 use Rattle.audit.specs.Cases.{Case, refusal, beside}
-use Rattle.audit.specs.Samples.{serverOf, serviceOf, array, twoServers, stateOf, connection, ports}
+use Rattle.audit.specs.Samples.{serverOf, array, twoServers, stateWith, connection, ports}
 use Rattle.audit.specs.SetupCases.{setupRefusal}
 use Rattle.audit.specs.PacketCases.{carrying}
 
 -- one connection, of server 0, whose count is right where it is 1; the clock is 100
 abbrev pub counted : (count0 weight1 : ℕ) → List Slot → State
-counted count0 weight1 free =
-    stateOf (serviceOf 6 1 2) (twoServers 0 count0 weight1 0) (startOf 1 2) 100 (words (connection 1 40000 0 100 ∷ free))
+counted count0 weight1 free = stateWith 6 (twoServers 0 count0 weight1 0) (connection 1 40000 0 100 ∷ free)
 
 -- a packet of a second client
 abbrev pub sent : (fragments checked port flags now : ℕ) → Call

@@ -83,7 +83,7 @@ fragmentCases =
     ∷ [])
     ∷ []
 
--- "protocol is not the service's" (SCOPE 4.8)
+-- "protocol is not the service's" (SCOPE 4.8): 1, 5, 6, 7, 16, 17 and 18 in the word of TTL, protocol and header checksum
 abbrev pub protocolCases : List Case
 protocolCases =
     each (λ checked. inboundRefusal 6 (either checked))

@@ -3,14 +3,12 @@
 use Prim.Native.Nat.{ℕ}
 use mathlib.Core.List.{List, [], _∷_, _++_, map}
 use mathlib.Core.Path.{_≡_}
-use lib.ListN.{replicate}
-use Rattle.servers.specs.Servers.{unused, countAt}
-use Rattle.scheduler.specs.ByNumber.{startOf}
+use Rattle.servers.specs.Servers.{countAt}
 use Rattle.director.specs.declared.state.Answer.{Answer}
 use Rattle.director.specs.declared.state.Way.{Way}
 use Rattle.audit.specs.Calls.{Call, setUp, setWeight, count, tick, packet, Fits, AllFit, State, called, next}
 use Rattle.audit.specs.Cases.{Case, Hold, answered, done, number, opened, kept, ended, refused}
-use Rattle.audit.specs.Samples.{serviceOf, twoServers, stateOf, bytes, ports, fin, syn, rst, ack, fromClient, fromServer0, fromServer1, udpFromClient, udpFromServer0, udpFromServer1}
+use Rattle.audit.specs.Samples.{serviceOf, twoServers, unsound, bytes, ports, fin, syn, rst, ack, fromClient, fromServer0, fromServer1, udpFromClient, udpFromServer0, udpFromServer1}
 
 -- a call, what it answers, and the counts of servers 0 and 1 after it
 pub record Step : Type 0 where
@@ -33,10 +31,6 @@ told s (c ∷ cs) =
     }
     ∷ told r cs
 
--- a state that is not sound, over a row of that many words
-abbrev pub before : (words : ℕ) → State
-before words = stateOf (serviceOf 6 1 2) (replicate 64 unused) (startOf 1 2) 99 (replicate words 7)
-
 -- TCP, round-robin
 
 abbrev pub first : Call
@@ -53,9 +47,14 @@ afterFirst =
     ∷ step (fromServer1 40001 0x12 13) (kept 1) 1 1
     ∷ step (fromClient 40002 ack 14) (refused 12) 1 1
     ∷ step (fromClient 40002 syn 14) (refused 13) 1 1
+    -- it did not move the walk (SCOPE 12.3): 0 is next
+    ∷ step (fromClient 40001 rst 15) (ended 1) 1 0
+    ∷ step (fromClient 40002 syn 15) (opened 0) 2 0
+    ∷ step (fromServer0 40002 rst 15) (ended 0) 1 0
+    ∷ step (fromClient 40001 syn 15) (opened 1) 1 1
     -- server 0 is drained: who is new goes to server 1, who is there stays
     ∷ step (setWeight 0 0) done 1 1
-    ∷ step (fromClient 40001 rst 15) (ended 1) 1 0
+    ∷ step (fromClient 40001 rst 16) (ended 1) 1 0
     ∷ step (fromClient 40002 syn 16) (opened 1) 1 1
     ∷ step (fromClient 40000 ack 17) (kept 0) 1 1
     ∷ step (tick 16) (refused 11) 1 1
@@ -171,11 +170,11 @@ weightedRun =
 pub record Premise : Type 0 where
   pub fits : Fits first
   pub all-fit : AllFit rest
-  pub accepted : called (before 10) first .answer ≡ Answer.Done
+  pub accepted : called (unsound 10) first .answer ≡ Answer.Done
 
 pub record Runs : Type 0 where
   pub premise : Premise
-  pub tcp : Hold (told (before 10) tcpRun)
-  pub udp : Hold (told (before 15) udpRun)
-  pub restart : Hold (told (before 25) restartRun)
-  pub weighted : Hold (told (before 25) weightedRun)
+  pub tcp : Hold (told (unsound 10) tcpRun)
+  pub udp : Hold (told (unsound 15) udpRun)
+  pub restart : Hold (told (unsound 25) restartRun)
+  pub weighted : Hold (told (unsound 25) weightedRun)

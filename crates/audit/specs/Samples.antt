@@ -34,6 +34,14 @@ abbrev pub stateOf : Service → List Server → Walk → ℕ → List ℕ → S
 stateOf service servers walk clock row =
     record { director = record { service = service; servers = servers; walk = walk; clock = clock }; row = row }
 
+-- a state that is not sound, over a row of that many words
+abbrev pub unsound : (words : ℕ) → State
+unsound words = stateOf (serviceOf 6 1 2) (replicate 64 unused) (startOf 1 2) 99 (replicate words 7)
+
+-- slots beside servers under round-robin; the clock is 100
+abbrev pub stateWith : (protocol : ℕ) → List Server → List Slot → State
+stateWith protocol servers slots = stateOf (serviceOf protocol 1 2) servers (startOf 1 2) 100 (words slots)
+
 -- a connection of 10.0.0.1, P11's client
 abbrev pub connection : (phase port server seen : ℕ) → Slot
 connection phase port server seen = slotOf phase 0x0A000001 port server seen
@@ -45,8 +53,7 @@ noConnection protocol scheduler weight0 weight1 =
 
 -- one connection, of 10.0.0.1:40000 with server 0, last seen at the clock 100; then free slots
 abbrev pub oneConnection : (protocol phase : ℕ) → List Slot → State
-oneConnection protocol phase free =
-    stateOf (serviceOf protocol 1 2) (twoServers 1 1 1 0) (startOf 1 2) 100 (words (connection phase 40000 0 100 ∷ free))
+oneConnection protocol phase free = stateWith protocol (twoServers 1 1 1 0) (connection phase 40000 0 100 ∷ free)
 
 -- Packets
 

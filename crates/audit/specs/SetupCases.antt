@@ -1,19 +1,15 @@
 -- Refusals 1 to 4, of setup, in calls that are one number apart (SCOPE 4.1 to 4.4). Assumes nothing: these are definitions.
 use Prim.Native.Nat.{ℕ, zero, suc, _+_}
 use mathlib.Core.List.{List, [], _∷_}
-use lib.ListN.{replicate}
 use Rattle.servers.specs.declared.Server.{Server}
-use Rattle.servers.specs.Servers.{unused}
-use Rattle.scheduler.specs.ByNumber.{startOf}
 use Rattle.director.specs.declared.state.Service.{Service}
 use Rattle.audit.specs.Calls.{setUp}
 use Rattle.audit.specs.Cases.{Case, each, refusal}
-use Rattle.audit.specs.Samples.{serverOf, serviceOf, array, twoServers, stateOf}
+use Rattle.audit.specs.Samples.{serverOf, serviceOf, array, twoServers, unsound}
 
 -- setup over a row of that many words, in a state that is not sound: it "doesn't judge it" (SCOPE 3.2)
 abbrev pub setupRefusal : (words : ℕ) → Service → List Server → ℕ
-setupRefusal words service given =
-    refusal (stateOf (serviceOf 6 1 2) (replicate 64 unused) (startOf 1 2) 99 (replicate words 7)) (setUp service given)
+setupRefusal words service given = refusal (unsound words) (setUp service given)
 
 -- of a service over the two servers
 abbrev pub serviceRefusal : (address port protocol scheduler : ℕ) → ℕ
