@@ -24,6 +24,7 @@ refusals = record {
   setup = refl;
   number = refl;
   header = refl;
+  length = refl;
   fragment = refl;
   protocol = refl;
   transport = refl;
@@ -38,5 +39,6 @@ refusals = record {
   slot = refl;
   walk = refl;
   call = refl;
-  order = refl;
+  setup-order = refl;
+  call-order = refl;
 }

@@ -5,7 +5,7 @@ use Rattle.table.specs.Slots.{freeSlot}
 use Rattle.director.specs.declared.state.Way.{Way}
 use Rattle.audit.specs.Calls.{setWeight, count, tick, packet}
 use Rattle.audit.specs.Cases.{Case, each, refusal}
-use Rattle.audit.specs.Samples.{noConnection, oneConnection, ports, tcpPacket, fin, syn, rst, ack, fromClient, fromServer0, fromServer1, udpFromClient, udpFromServer0, udpFromServer1}
+use Rattle.audit.specs.Samples.{noConnection, oneConnection, ports, tcpPacket, fin, syn, rst, ack, synAck, fromClient, fromServer0, fromServer1, udpFromClient, udpFromServer0, udpFromServer1}
 
 -- "no server of that number" (SCOPE 4.5)
 abbrev pub numberCases : List Case
@@ -32,7 +32,7 @@ openingCases =
     -- SYN with each of the other flags, and each of them alone: PSH (08), URG (20), ECE (40), CWR (80)
     ∷ each (λ flags. refusal (noConnection 6 1 1 1) (fromClient 40000 flags 100))
     ((0x0A, 0) ∷ (0x22, 0) ∷ (0x42, 0) ∷ (0x82, 0) ∷ (0x08, 12) ∷ (0x20, 12) ∷ (0x40, 12) ∷ (0x80, 12) ∷ [])
-    ∷ each (λ flags. refusal (noConnection 6 1 1 1) (fromServer0 40000 flags 100)) ((syn, 12) ∷ (0x12, 12) ∷ (ack, 12) ∷ (rst, 12) ∷ [])
+    ∷ each (λ flags. refusal (noConnection 6 1 1 1) (fromServer0 40000 flags 100)) ((syn, 12) ∷ (synAck, 12) ∷ (ack, 12) ∷ (rst, 12) ∷ [])
     ∷ each (refusal (noConnection 17 1 1 1)) ((udpFromClient 40000 100, 0) ∷ (udpFromServer0 40000 100, 12) ∷ [])
     ∷ []
 

@@ -22,8 +22,8 @@ abbrev pub sent : (fragments checked port flags now : ℕ) → Call
 sent fragments checked port flags now =
     packet Way.Inbound (carrying 0x45000028 fragments checked (ports 40001 port ∷ 0x00000000 ∷ 0x00000000 ∷ flags ∷ 0x325F0000 ∷ [])) now
 
-abbrev pub orderCases : List Case
-orderCases =
+abbrev pub setupOrderCases : List Case
+setupOrderCases =
     -- "setup 1, 2, 3, 4" (SCOPE 5.1): the row's length; the port; a server's port; two servers at one place
     beside
     ((setupRefusal 4 (service 0) (three 0x0A010005 0), 1)
@@ -32,12 +32,22 @@ orderCases =
     ∷ (setupRefusal 5 (service 5432) (three 0x0A010005 6434), 4)
     ∷ (setupRefusal 5 (service 5432) (three 0x0A010006 6434), 0)
     ∷ [])
-    -- "Weight and count 15, 5. Tick 15, 11." (SCOPE 5.1)
-    ∷ beside ((refusal (counted 2 1 []) (setWeight 2 1), 15) ∷ (refusal (counted 1 1 []) (setWeight 2 1), 5) ∷ [])
+    ∷ []
+  where
+    service : (port : ℕ) → Service
+    service port = record { address = 0xC000020A; port = port; protocol = 6; scheduler = 1; servers = 3 }
+
+    -- the second at an address, the third at a port
+    three : (address port : ℕ) → List Server
+    three address port = array (serverOf 0x0A010005 6432 1 0 ∷ serverOf address 6432 1 0 ∷ serverOf 0x0A010007 port 1 0 ∷ [])
+
+-- "Weight and count 15, 5. Tick 15, 11. Packets 15, 6 to 11, then 12 to 14." (SCOPE 5.1)
+abbrev pub callOrderCases : List Case
+callOrderCases =
+    beside ((refusal (counted 2 1 []) (setWeight 2 1), 15) ∷ (refusal (counted 1 1 []) (setWeight 2 1), 5) ∷ [])
     ∷ beside ((refusal (counted 2 1 []) (count 2), 15) ∷ (refusal (counted 1 1 []) (count 2), 5) ∷ [])
     ∷ beside ((refusal (counted 2 1 []) (tick 99), 15) ∷ (refusal (counted 1 1 []) (tick 99), 11) ∷ [])
-    -- "Packets 15, 6 to 11, then 12 to 14." (SCOPE 5.1): the count; the header checksum; more-fragments; the protocol; the data offset; the port;
-    -- the clock; ACK in place of SYN; no slot; no weight
+    -- the count; the header checksum; more-fragments; the protocol; the data offset; the port; the clock; ACK in place of SYN; no slot; no weight
     ∷ beside
     ((refusal (counted 2 0 []) (sent 0x00002000 0x40118EBB 5433 0x40100000 99), 15)
     ∷ (refusal (counted 1 0 []) (sent 0x00002000 0x40118EBB 5433 0x40100000 99), 6)
@@ -52,10 +62,3 @@ orderCases =
     ∷ (refusal (counted 1 1 (freeSlot ∷ [])) (sent 0x00004000 0x40066EC5 5432 0x50020000 100), 0)
     ∷ [])
     ∷ []
-  where
-    service : (port : ℕ) → Service
-    service port = record { address = 0xC000020A; port = port; protocol = 6; scheduler = 1; servers = 3 }
-
-    -- the second at an address, the third at a port
-    three : (address port : ℕ) → List Server
-    three address port = array (serverOf 0x0A010005 6432 1 0 ∷ serverOf address 6432 1 0 ∷ serverOf 0x0A010007 port 1 0 ∷ [])

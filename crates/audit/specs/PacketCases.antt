@@ -26,8 +26,7 @@ plain lengths fragments checked = carrying lengths fragments checked (tcp (ports
 abbrev pub optioned : (lengths fragments checked : ℕ) → List ℕ
 optioned lengths fragments checked = carrying lengths fragments checked (0x01010101 ∷ tcp (ports 40000 5432) ack)
 
--- "packet under 20 bytes; version not 4; header length word under 5; total length below header length or above the bytes given; header
--- checksum not valid" (SCOPE 4.6)
+-- "packet under 20 bytes; version not 4; header length word under 5" (SCOPE 4.6)
 abbrev pub headerCases : List Case
 headerCases =
     -- so many bytes of a packet of 20. Under 20, its total length is above the bytes given too: no header has less
@@ -45,8 +44,13 @@ headerCases =
     ∷ (plain 0x45000028 0x00004000 0x40066EC5, 0)
     ∷ (optioned 0x4600002C 0x00004000 0x40066BBF, 0)
     ∷ [])
+    ∷ []
+
+-- "total length below header length or above the bytes given; header checksum not valid" (SCOPE 4.6)
+abbrev pub lengthCases : List Case
+lengthCases =
     -- a header of 20 bytes with total length 19, 20; of 24 with 23, 24
-    ∷ each (inboundRefusal 6)
+    each (inboundRefusal 6)
     ((plain 0x45000013 0x00004000 0x40066EDA, 6)
     ∷ (plain 0x45000014 0x00004000 0x40066ED9, 9)
     ∷ (optioned 0x46000017 0x00004000 0x40066BD4, 6)

@@ -2,10 +2,10 @@
 -- is accepted. Assumes nothing: these are definitions.
 use Rattle.audit.specs.Cases.{Hold}
 use Rattle.audit.specs.SetupCases.{setupCases}
-use Rattle.audit.specs.PacketCases.{headerCases, fragmentCases, protocolCases, transportCases, endpointCases}
+use Rattle.audit.specs.PacketCases.{headerCases, lengthCases, fragmentCases, protocolCases, transportCases, endpointCases}
 use Rattle.audit.specs.ConnectionCases.{numberCases, clockCases, openingCases, belongingCases, idleCases, fullCases, weightCases}
 use Rattle.audit.specs.SoundnessCases.{settingsCases, slotCases, walkCases, callCases}
-use Rattle.audit.specs.OrderCases.{orderCases}
+use Rattle.audit.specs.OrderCases.{setupOrderCases, callOrderCases}
 
 -- what the rules give is what is printed, in every case of every group
 pub record Refusals : Type 0 where
@@ -15,6 +15,7 @@ pub record Refusals : Type 0 where
   pub number : Hold numberCases
   -- 6
   pub header : Hold headerCases
+  pub length : Hold lengthCases
   -- 7
   pub fragment : Hold fragmentCases
   -- 8
@@ -39,4 +40,5 @@ pub record Refusals : Type 0 where
   pub walk : Hold walkCases
   pub call : Hold callCases
   -- which of two
-  pub order : Hold orderCases
+  pub setup-order : Hold setupOrderCases
+  pub call-order : Hold callOrderCases

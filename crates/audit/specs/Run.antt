@@ -8,7 +8,7 @@ use Rattle.director.specs.declared.state.Answer.{Answer}
 use Rattle.director.specs.declared.state.Way.{Way}
 use Rattle.audit.specs.Calls.{Call, setUp, setWeight, count, tick, packet, Fits, AllFit, State, called, next}
 use Rattle.audit.specs.Cases.{Case, Hold, answered, done, number, opened, kept, ended, refused}
-use Rattle.audit.specs.Samples.{serviceOf, twoServers, unsound, bytes, ports, fin, syn, rst, ack, fromClient, fromServer0, fromServer1, udpFromClient, udpFromServer0, udpFromServer1}
+use Rattle.audit.specs.Samples.{serviceOf, twoServers, unsound, bytes, ports, tcpPacket, fin, syn, rst, ack, finAck, synAck, fromClient, fromServer0, fromServer1, udpFromClient, udpFromServer0, udpFromServer1}
 
 -- a call, what it answers, and the counts of servers 0 and 1 after it
 pub record Step : Type 0 where
@@ -33,27 +33,34 @@ told s (c ∷ cs) =
 
 -- TCP, round-robin
 
+-- "setup zeroes the row, all counts and the clock" (SCOPE 3.3)
 abbrev pub first : Call
-first = setUp (serviceOf 6 1 2) (twoServers 1 0 1 0)
+first = setUp (serviceOf 6 1 2) (twoServers 1 7 1 9)
 
--- in a row of two slots: clients 40000, 40001 and 40002
-abbrev pub afterFirst : List Step
-afterFirst =
-    -- two connections, each with packets both ways; a third finds no slot
+-- In a row of two slots, with clients 40000, 40001 and 40002
+
+-- two connections, each with packets both ways; a third finds no slot
+abbrev pub openingSteps : List Step
+openingSteps =
     step (fromClient 40000 syn 10) (opened 0) 1 0
-    ∷ step (fromServer0 40000 0x12 11) (kept 0) 1 0
+    ∷ step (fromServer0 40000 synAck 11) (kept 0) 1 0
     ∷ step (fromClient 40001 syn 12) (opened 1) 1 1
-    ∷ step (fromServer0 40001 0x12 13) (refused 12) 1 1
-    ∷ step (fromServer1 40001 0x12 13) (kept 1) 1 1
-    ∷ step (fromClient 40002 ack 14) (refused 12) 1 1
+    ∷ step (fromServer0 40001 synAck 13) (refused 12) 1 1
+    ∷ step (fromServer1 40001 synAck 13) (kept 1) 1 1
+    ∷ step (fromClient 40002 ack 13) (refused 12) 1 1
     ∷ step (fromClient 40002 syn 14) (refused 13) 1 1
+    ∷ step (tick 13) (refused 11) 1 1
     -- it did not move the walk (SCOPE 12.3): 0 is next
     ∷ step (fromClient 40001 rst 15) (ended 1) 1 0
     ∷ step (fromClient 40002 syn 15) (opened 0) 2 0
     ∷ step (fromServer0 40002 rst 15) (ended 0) 1 0
     ∷ step (fromClient 40001 syn 15) (opened 1) 1 1
-    -- server 0 is drained: who is new goes to server 1, who is there stays
-    ∷ step (setWeight 0 0) done 1 1
+    ∷ []
+
+-- server 0 is drained: who is new goes to server 1, who is there stays
+abbrev pub drainSteps : List Step
+drainSteps =
+    step (setWeight 0 0) done 1 1
     ∷ step (fromClient 40001 rst 16) (ended 1) 1 0
     ∷ step (fromClient 40002 syn 16) (opened 1) 1 1
     ∷ step (fromClient 40000 ack 17) (kept 0) 1 1
@@ -62,12 +69,19 @@ afterFirst =
     ∷ step (fromServer1 40002 0x15 18) (ended 1) 1 0
     ∷ step (setWeight 1 0) done 1 0
     ∷ step (fromClient 40002 syn 19) (refused 14) 1 0
+    ∷ step (tick 18) (refused 11) 1 0
     ∷ step (setWeight 1 1) done 1 0
-    -- FIN from the client, twice, then from the server, then a SYN (SCOPE 8.11): the count falls 120 s after the last packet
-    ∷ step (fromClient 40000 fin 20) (kept 0) 1 0
+    -- the clock of a packet for another port is not stored
+    ∷ step (packet Way.Inbound (tcpPacket 0x6EC5 0x0A000001 0xC000020A (ports 40000 5433) rst) 900) (refused 10) 1 0
+    ∷ []
+
+-- FIN from the client, twice, then from the server, then a SYN (SCOPE 8.11): the count falls 120 s after the last packet
+abbrev pub finSteps : List Step
+finSteps =
+    step (fromClient 40000 fin 20) (kept 0) 1 0
     ∷ step (fromClient 40000 fin 21) (kept 0) 1 0
     ∷ step (count 0) (number 1) 1 0
-    ∷ step (fromServer0 40000 0x11 22) (kept 0) 1 0
+    ∷ step (fromServer0 40000 finAck 22) (kept 0) 1 0
     ∷ step (fromClient 40000 syn 30) (kept 0) 1 0
     ∷ step (tick 149) (number 0) 1 0
     ∷ step (count 0) (number 1) 1 0
@@ -76,18 +90,22 @@ afterFirst =
     ∷ step (fromClient 40000 ack 151) (refused 12) 0 0
     -- FIN from the server alone: 900 s; a packet that is refused removes it
     ∷ step (fromClient 40000 syn 200) (opened 1) 0 1
-    ∷ step (fromServer1 40000 0x11 210) (kept 1) 0 1
+    ∷ step (fromServer1 40000 finAck 210) (kept 1) 0 1
     ∷ step (fromClient 40002 ack 1109) (refused 12) 0 1
     ∷ step (fromClient 40002 ack 1110) (refused 12) 0 0
     ∷ step (tick 1109) (refused 11) 0 0
     -- FIN from the server first
     ∷ step (fromClient 40000 syn 1110) (opened 1) 0 1
-    ∷ step (fromServer1 40000 0x11 1111) (kept 1) 0 1
-    ∷ step (fromClient 40000 0x11 1112) (kept 1) 0 1
+    ∷ step (fromServer1 40000 finAck 1111) (kept 1) 0 1
+    ∷ step (fromClient 40000 finAck 1112) (kept 1) 0 1
     ∷ step (tick 1231) (number 0) 0 1
     ∷ step (tick 1232) (number 1) 0 0
-    -- a setup that is refused leaves all as it is; an accepted one forgets all, the clock included
-    ∷ step (fromClient 40000 syn 1300) (opened 1) 0 1
+    ∷ []
+
+-- a setup that is refused leaves all as it is; an accepted one forgets all, the clock included
+abbrev pub setupSteps : List Step
+setupSteps =
+    step (fromClient 40000 syn 1300) (opened 1) 0 1
     ∷ step (setUp (serviceOf 6 1 0) (twoServers 1 0 1 0)) (refused 1) 0 1
     ∷ step (fromClient 40000 ack 1300) (kept 1) 0 1
     ∷ step (setWeight 2 1) (refused 5) 0 1
@@ -95,6 +113,9 @@ afterFirst =
     ∷ step (fromClient 40000 ack 0) (refused 12) 0 0
     ∷ step (fromClient 40000 syn 0) (opened 0) 1 0
     ∷ []
+
+abbrev pub afterFirst : List Step
+afterFirst = openingSteps ++ drainSteps ++ finSteps ++ setupSteps
 
 abbrev pub rest : List Call
 rest = map (λ (c : Step). c .call) afterFirst

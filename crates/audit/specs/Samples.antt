@@ -75,6 +75,12 @@ rst = 0x04
 abbrev pub ack : ℕ
 ack = 0x10
 
+abbrev pub finAck : ℕ
+finAck = 0x11
+
+abbrev pub synAck : ℕ
+synAck = 0x12
+
 -- two ports in a word
 abbrev pub ports : (source destination : ℕ) → ℕ
 ports source destination = source * 65536 + destination
