@@ -54,8 +54,8 @@ callFits (packet way p now) = allOf (λ x. ltb x 256) p
 
 call-fits : (c : Call) → callFits c ≡ true → Fits c
 call-fits (setUp g given) fits =
-    let (address, rest) = both (ltb (g .address) 4294967296) _ fits in
-    let (port, ends) = both (ltb (g .port) 65536) _ rest in
+    let (address, others) = both (ltb (g .address) 4294967296) _ fits in
+    let (port, ends) = both (ltb (g .port) 65536) _ others in
     (ltb-true _ _ address, ltb-true _ _ port, ends-fit given ends)
 call-fits (setWeight k w) fits = tt
 call-fits (count k) fits = tt

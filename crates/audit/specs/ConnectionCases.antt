@@ -14,7 +14,7 @@ numberCases =
     ∷ each (λ k. refusal (noConnection 6 1 1 1) (count k)) ((0, 0) ∷ (1, 0) ∷ (2, 5) ∷ (64, 5) ∷ [])
     ∷ []
 
--- "clock earlier than the stored one" (SCOPE 4.11), which is 100
+-- "clock earlier than the stored one" (SCOPE 4.11), which is 100; SCOPE E2 has 51
 abbrev pub clockCases : List Case
 clockCases =
     each (λ now. refusal (oneConnection 6 1 []) (tick now)) ((0, 11) ∷ (99, 11) ∷ (100, 0) ∷ (101, 0) ∷ [])

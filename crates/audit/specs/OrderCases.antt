@@ -47,7 +47,8 @@ callOrderCases =
     beside ((refusal (counted 2 1 []) (setWeight 2 1), 15) ∷ (refusal (counted 1 1 []) (setWeight 2 1), 5) ∷ [])
     ∷ beside ((refusal (counted 2 1 []) (count 2), 15) ∷ (refusal (counted 1 1 []) (count 2), 5) ∷ [])
     ∷ beside ((refusal (counted 2 1 []) (tick 99), 15) ∷ (refusal (counted 1 1 []) (tick 99), 11) ∷ [])
-    -- the count; the header checksum; more-fragments; the protocol; the data offset; the port; the clock; ACK in place of SYN; no slot; no weight
+    -- the count; the header checksum; more-fragments; the protocol; the data offset; the port; the clock; ACK in place of SYN; no slot (SCOPE E1);
+    -- no weight
     ∷ beside
     ((refusal (counted 2 0 []) (sent 0x00002000 0x40118EBB 5433 0x40100000 99), 15)
     ∷ (refusal (counted 1 0 []) (sent 0x00002000 0x40118EBB 5433 0x40100000 99), 6)

@@ -107,7 +107,7 @@ transportCases =
     -- a TCP payload of 19 bytes, 20. Under 20, its data offset is past the payload too, or under 5
     each (inboundRefusal 6)
     ((plain 0x45000027 0x00004000 0x40066EC6, 9) ∷ (plain 0x45000028 0x00004000 0x40066EC5, 0) ∷ [])
-    -- data offset 4, 5, 6 in 20 bytes; 6 in 23, in 24
+    -- data offset 4, 5, 6 in 20 bytes (SCOPE E3); 6 in 23, in 24
     ∷ each (inboundRefusal 6)
     ((offset 0x45000028 0x40066EC5 0x40100000, 9)
     ∷ (offset 0x45000028 0x40066EC5 0x50100000, 0)

@@ -29,7 +29,7 @@ abbrev pub setupCases : List Case
 setupCases =
     -- "servers not 1..64" (SCOPE 4.1)
     each (λ n. serversRefusal n (manyServers 6432 64)) ((0, 1) ∷ (1, 0) ∷ (64, 0) ∷ (65, 1) ∷ [])
-    -- "5 to 20,480 words, a multiple of five" (SCOPE 2.6)
+    -- "5 to 20,480 words, a multiple of five" (SCOPE 2.6); the last two are SCOPE E4
     ∷ each (λ words. setupRefusal words (serviceOf 6 1 2) (twoServers 1 0 1 0))
     ((0, 1) ∷ (4, 1) ∷ (5, 0) ∷ (6, 1) ∷ (9, 1) ∷ (10, 0) ∷ (11, 1) ∷ (20479, 1) ∷ (20480, 0) ∷ (20485, 1) ∷ [])
     -- "virtual address 0 or port 0, protocol not 6 or 17, scheduler not 1..4" (SCOPE 4.2)
