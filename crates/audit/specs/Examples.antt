@@ -113,6 +113,7 @@ table =
     -- stored; the first slot has the connection
     ∷ record {
       given = settled (called (begun 1) (packet Way.Inbound p11-in 100));
+      -- the answer, the service, two servers and 62 unused places, the walk, the clock, two slots, the packet
       printed =
           opened 0
           ++ (0xC000020A ∷ 5432 ∷ 6 ∷ 1 ∷ 2 ∷ [])
