@@ -102,13 +102,15 @@ finSteps =
     ∷ step (tick 1232) (number 1) 0 0
     ∷ []
 
--- a setup that is refused leaves all as it is; an accepted one forgets all, the clock included
+-- server 0 is put back; a setup that is refused leaves all as it is; an accepted one forgets all, weights, walk and clock included
 abbrev pub setupSteps : List Step
 setupSteps =
-    step (fromClient 40000 syn 1300) (opened 1) 0 1
-    ∷ step (setUp (serviceOf 6 1 0) (twoServers 1 0 1 0)) (refused 1) 0 1
-    ∷ step (fromClient 40000 ack 1300) (kept 1) 0 1
-    ∷ step (setWeight 2 1) (refused 5) 0 1
+    step (setWeight 0 1) done 0 0
+    ∷ step (fromClient 40000 syn 1300) (opened 0) 1 0
+    ∷ step (setWeight 0 0) done 1 0
+    ∷ step (setUp (serviceOf 6 1 0) (twoServers 1 0 1 0)) (refused 1) 1 0
+    ∷ step (fromClient 40000 ack 1300) (kept 0) 1 0
+    ∷ step (setWeight 2 1) (refused 5) 1 0
     ∷ step first done 0 0
     ∷ step (fromClient 40000 ack 0) (refused 12) 0 0
     ∷ step (fromClient 40000 syn 0) (opened 0) 1 0
