@@ -12,6 +12,7 @@ use Rattle.table.specs.Find.{firstFrom}
 use Rattle.table.specs.Expire.{cleared, loweredBy}
 use Rattle.table.specs.Sound.{countsAre}
 use Rattle.director.specs.Judge.{settingsJudged, partsSound, soundOf}
+use Rattle.director.specs.Control.{numberJudged, weightOf}
 use Rattle.director.specs.Tick.{tickOf}
 use Rattle.director.specs.Segment.{segmentRead}
 use Rattle.director.specs.Decide.{decided}
@@ -19,5 +20,5 @@ use Rattle.director.specs.Packets.{routed, packetHeld, packetOf}
 use Rattle.audit.specs.Examples.{Examples}
 
 pub examples : Examples
-unfolding foldBelow allBelow countOf allOf edited broken fragment tcpMalformed readPacket headerEdited sumWritten transportEdited redirected ringFrom euclid gcdOf slots words firstFrom cleared loweredBy countsAre settingsJudged partsSound soundOf tickOf segmentRead decided routed packetHeld packetOf
+unfolding foldBelow allBelow countOf allOf edited broken fragment tcpMalformed readPacket headerEdited sumWritten transportEdited redirected ringFrom euclid gcdOf slots words firstFrom cleared loweredBy countsAre settingsJudged partsSound soundOf numberJudged weightOf tickOf segmentRead decided routed packetHeld packetOf
 examples = refl

@@ -6,10 +6,12 @@ pub mod Routing
 pub mod Steps
 pub mod Leaving
 pub mod Demand3
-pub mod Run
-pub mod Examples
 pub mod Exactly
 pub mod Demand1
 pub mod Published
 pub mod Rewriting
 pub mod Demand2
+pub mod Refusals
+pub mod Run
+pub mod Examples
+pub mod Forwarding

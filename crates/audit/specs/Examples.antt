@@ -1,34 +1,22 @@
 -- The examples P1 to P11 (SCOPE section 11) as one table: what the written rules give, beside what SCOPE prints. Assumes nothing: these are definitions.
-use Prim.Native.Nat.{ℕ, zero, suc, _/_, _%_}
-use mathlib.Core.List.{List, [], _∷_, _++_, map}
-use mathlib.Core.Path.{_≡_}
+use Prim.Native.Nat.{ℕ, zero, suc}
+use mathlib.Core.List.{List, [], _∷_, _++_}
 use lib.ListN.{length, replicate}
 use Rattle.checksum.specs.Ones.{edited}
 use Rattle.packet.specs.Redirect.{sumWritten}
 use Rattle.servers.specs.declared.Server.{Server}
-use Rattle.servers.specs.Servers.{unused}
 use Rattle.scheduler.specs.declared.walk.Place.{Place}
 use Rattle.scheduler.specs.declared.walk.Walk.{Walk}
 use Rattle.scheduler.specs.declared.walk.Picked.{Picked}
 use Rattle.scheduler.specs.ByNumber.{startOf, pickOf}
-use Rattle.table.specs.Slots.{slotOf, words}
 use Rattle.director.specs.declared.state.Director.{Director}
-use Rattle.director.specs.declared.state.Answer.{Answer}
 use Rattle.director.specs.declared.state.Way.{Way}
-use Rattle.director.specs.State.{Result, refusalNumber}
-use Rattle.director.specs.Tick.{tickOf}
-use Rattle.director.specs.Packets.{packetOf}
-
--- an example: what the rules give, and what SCOPE prints
-pub record Case : Type 0 where
-  pub given : List ℕ
-  pub printed : List ℕ
+use Rattle.director.specs.State.{Result}
+use Rattle.audit.specs.Calls.{setWeight, tick, packet, State, called, after}
+use Rattle.audit.specs.Cases.{Case, Hold, answered, number, opened, refused}
+use Rattle.audit.specs.Samples.{serverOf, serviceOf, twoServers, stateOf, oneConnection, bytes, syn, fromClient}
 
 -- Picks
-
--- a server
-abbrev pub serverOf : (address port weight count : ℕ) → Server
-serverOf address port weight count = record { address = address; port = port; weight = weight; count = count }
 
 -- a server of a weight and a count, at a port of its own
 abbrev pub server : (port weight count : ℕ) → Server
@@ -50,27 +38,6 @@ picksOf k s m = picks k s m (startOf k (length s))
 
 -- Calls
 
--- the bytes of 32-bit words, highest byte first, so that packets read as in SCOPE
-abbrev pub bytes : List ℕ → List ℕ
-bytes [] = []
-bytes (w ∷ ws) = (w / 16777216) ∷ (w / 65536 % 256) ∷ (w / 256 % 256) ∷ (w % 256) ∷ bytes ws
-
--- a state of P11's service, 192.0.2.10:5432, over some servers
-abbrev pub directorOf : ℕ → ℕ → List Server → ℕ → Director
-directorOf protocol scheduler s clock = record {
-  service = record { address = 0xC000020A; port = 5432; protocol = protocol; scheduler = scheduler; servers = length s };
-  servers = s ++ replicate 62 unused;
-  walk = startOf scheduler (length s);
-  clock = clock;
-}
-
--- an answer in numbers: a refusal's, a count or tick call's, or the server's
-abbrev pub answered : Answer → ℕ
-answered Answer.Done = 0
-answered (Answer.Number n) = n
-answered (Answer.Passed i change) = i .0
-answered (Answer.Refused why) = refusalNumber why
-
 -- a walk in numbers: 0 for the place -1, else one more than the place; and the level
 abbrev pub placed : Place → ℕ
 placed Place.Start = 0
@@ -78,6 +45,21 @@ placed (Place.At i) = suc (i .0)
 
 abbrev pub walked : Walk → List ℕ
 walked w = placed (w .place) ∷ w .level ∷ []
+
+-- servers in numbers
+abbrev pub listed : List Server → List ℕ
+listed [] = []
+listed (v ∷ servers) = v .address ∷ v .port ∷ v .weight ∷ v .count ∷ listed servers
+
+-- a state in numbers: the service, the servers, the walk, the clock
+abbrev pub stated : Director → List ℕ
+stated d =
+    let g = d .service in
+    (g .address ∷ g .port ∷ g .protocol ∷ g .scheduler ∷ g .servers ∷ []) ++ listed (d .servers) ++ walked (d .walk) ++ (d .clock ∷ [])
+
+-- all that a call settles, in numbers: its answer, the state, the row, the packet
+abbrev pub settled : Result → List ℕ
+settled r = answered (r .answer) ++ stated (r .director) ++ r .lent .table ++ r .lent .packet
 
 -- P11's packet, as it comes and as it leaves: 10.0.0.1:40000 to 192.0.2.10:5432, sent on to 10.1.0.5:6432
 abbrev pub p11-in : List ℕ
@@ -88,14 +70,13 @@ abbrev pub p11-out : List ℕ
 p11-out =
     bytes (0x45000028 ∷ 0x00004000 ∷ 0x400626CA ∷ 0x0A000001 ∷ 0x0A010005 ∷ 0x9C401920 ∷ 0x00000000 ∷ 0x00000000 ∷ 0x50020000 ∷ 0xE67B0000 ∷ [])
 
--- P11's packet through inbound, in a row of one free slot
-abbrev pub opening : Director → Result
-opening d = packetOf Way.Inbound d (replicate 5 0) p11-in 0
+-- two servers of weight 1 under a scheduler, over two free slots
+abbrev pub begun : ℕ → State
+begun scheduler = stateOf (serviceOf 6 scheduler 2) (twoServers 1 0 1 0) (startOf scheduler 2) 0 (replicate 10 0)
 
 -- the answer of a tick over one connection, of server 0, that was last seen at 100
-abbrev pub tickOver : (protocol phase now : ℕ) → ℕ
-tickOver protocol phase now =
-    answered (tickOf (directorOf protocol 1 (server 6432 1 1 ∷ server 6433 1 0 ∷ []) 100) (words (slotOf phase 0x0A000001 40000 0 100 ∷ [])) now .answer)
+abbrev pub tickOver : (protocol phase now : ℕ) → List ℕ
+tickOver protocol phase now = answered (called (oneConnection protocol phase []) (tick now) .answer)
 
 -- The table
 
@@ -113,8 +94,9 @@ table =
     ∷ record { given = picksOf 4 (server 1 4 2 ∷ server 2 1 1 ∷ server 3 2 1 ∷ []) 1; printed = 0 ∷ [] }
     -- P6 weights 1,3, counts 1,2, scheduler 4
     ∷ record { given = picksOf 4 (server 1 1 1 ∷ server 2 3 2 ∷ []) 1; printed = 1 ∷ [] }
-    -- P7 weights 0,0: 14, walk unmoved, here each scheduler's at its start
-    ∷ noWeight 1 (2 ∷ 0 ∷ [])
+    -- P7 weights 0,0: 14, walk unmoved, here after an opening. Scheduler 1's last pick is then 0, and was 1 at the start; scheduler 2's walk is at its
+    -- start again, since with weights 0,0 nothing else is in its range; the others' is held
+    ∷ noWeight 1 (1 ∷ 0 ∷ [])
     ∷ noWeight 2 (0 ∷ 0 ∷ [])
     ∷ noWeight 3 (1 ∷ 0 ∷ [])
     ∷ noWeight 4 (1 ∷ 0 ∷ [])
@@ -124,21 +106,41 @@ table =
       printed = 0x0000 ∷ 0xFFFF ∷ [];
     }
     -- P9 UDP last seen at 100: present at 399, gone at 400, by the number that a tick removes
-    ∷ record { given = tickOver 17 1 399 ∷ tickOver 17 1 400 ∷ []; printed = 0 ∷ 1 ∷ [] }
+    ∷ record { given = tickOver 17 1 399 ++ tickOver 17 1 400; printed = number 0 ++ number 1 }
     -- P10 TCP phase 4 last seen at 100: present at 219, gone at 220
-    ∷ record { given = tickOver 6 4 219 ∷ tickOver 6 4 220 ∷ []; printed = 0 ∷ 1 ∷ [] }
-    -- P11 whole packet, through inbound: opened at server 0
-    ∷ record { given = opening (directorOf 6 1 (server 6432 1 0 ∷ server 6433 1 0 ∷ []) 0) .lent .packet; printed = p11-out }
+    ∷ record { given = tickOver 6 4 219 ++ tickOver 6 4 220; printed = number 0 ++ number 1 }
+    -- P11 a whole packet, through inbound, at the clock 100: opened at server 0, which has a connection more; round-robin's last pick is 0; the clock is
+    -- stored; the first slot has the connection
+    ∷ record {
+      given = settled (called (begun 1) (packet Way.Inbound p11-in 100));
+      -- the answer, the service, two servers and 62 unused places, the walk, the clock, two slots, the packet
+      printed =
+          opened 0
+          ++ (0xC000020A ∷ 5432 ∷ 6 ∷ 1 ∷ 2 ∷ [])
+          ++ (0x0A010005 ∷ 6432 ∷ 1 ∷ 1 ∷ [])
+          ++ (0x0A010006 ∷ 6433 ∷ 1 ∷ 0 ∷ [])
+          ++ replicate 248 0
+          ++ (1 ∷ 0 ∷ [])
+          ++ (100 ∷ [])
+          ++ (1 ∷ 0x0A000001 ∷ 40000 ∷ 0 ∷ 100 ∷ [])
+          ++ replicate 5 0
+          ++ p11-out;
+    }
     ∷ []
   where
     round : List ℕ
     round = 0 ∷ 0 ∷ 1 ∷ 0 ∷ 1 ∷ 2 ∷ 0 ∷ 1 ∷ 2 ∷ []
 
+    -- a first client opens, both weights are set to 0, a second client is refused
     noWeight : ℕ → List ℕ → Case
     noWeight k walk =
-        let r = opening (directorOf 6 k (server 6432 0 0 ∷ server 6433 0 0 ∷ []) 0) in
-        record { given = answered (r .answer) ∷ walked (r .director .walk); printed = 14 ∷ walk }
+        let s = after (begun k) (fromClient 40000 syn 1 ∷ setWeight 0 0 ∷ setWeight 1 0 ∷ []) in
+        let r = called s (fromClient 40001 syn 1) in
+        record {
+          given = walked (s .director .walk) ++ answered (r .answer) ++ walked (r .director .walk);
+          printed = walk ++ refused 14 ++ walk;
+        }
 
 -- what the rules give is what SCOPE prints, in every case (SCOPE 13.7)
 abbrev pub Examples : Type 0
-Examples = map (λ (c : Case). c .given) table ≡ map (λ (c : Case). c .printed) table
+Examples = Hold table

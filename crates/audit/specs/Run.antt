@@ -1,81 +1,203 @@
--- A run that meets demand 3's premise, as a statement; proofs/Run.antt proves it. Assumes nothing: these are definitions.
+-- Runs of calls with what each answers and the counts after it, as one statement; one of them meets demand 3's premise. proofs/Run.antt proves it.
+-- Assumes nothing: these are definitions.
 use Prim.Native.Nat.{ℕ}
-use mathlib.Core.List.{List, [], _∷_, map}
+use mathlib.Core.List.{List, [], _∷_, _++_, map}
 use mathlib.Core.Path.{_≡_}
-use lib.ListN.{replicate}
-use Rattle.audit.specs.Examples.{serverOf, bytes}
-use Rattle.servers.specs.declared.Server.{Server}
-use Rattle.servers.specs.declared.ServerNo.{ServerNo}
-use Rattle.servers.specs.Servers.{unused}
-use Rattle.scheduler.specs.ByNumber.{startOf}
-use Rattle.director.specs.declared.state.Service.{Service}
-use Rattle.director.specs.declared.state.Refusal.{Refusal}
-use Rattle.director.specs.declared.state.Change.{Change}
+use Rattle.servers.specs.Servers.{countAt}
 use Rattle.director.specs.declared.state.Answer.{Answer}
 use Rattle.director.specs.declared.state.Way.{Way}
-use Rattle.audit.specs.Calls.{Call, setUp, count, tick, packet, Fits, AllFit, State, Line, recordOf}
+use Rattle.audit.specs.Calls.{Call, setUp, setWeight, count, tick, packet, Fits, AllFit, State, called, next}
+use Rattle.audit.specs.Cases.{Case, Hold, answered, done, number, opened, kept, ended, refused}
+use Rattle.audit.specs.Samples.{serviceOf, twoServers, unsound, bytes, ports, tcpPacket, fin, syn, rst, ack, finAck, synAck, fromClient, fromServer0, fromServer1, udpFromClient, udpFromServer0, udpFromServer1}
 
--- P11's service: 192.0.2.10:5432, TCP, round-robin, over two servers
-abbrev pub service : Service
-service = record { address = 0xC000020A; port = 5432; protocol = 6; scheduler = 1; servers = 2 }
+-- a call, what it answers, and the counts of servers 0 and 1 after it
+pub record Step : Type 0 where
+  pub call : Call
+  pub answer : List ℕ
+  pub count0 : ℕ
+  pub count1 : ℕ
 
--- 10.1.0.5:6432, P11's server, and 10.1.0.6:6432
-abbrev pub twoServers : List Server
-twoServers = serverOf 0x0A010005 6432 1 0 ∷ serverOf 0x0A010006 6432 1 0 ∷ replicate 62 unused
+abbrev pub step : Call → List ℕ → (count0 count1 : ℕ) → Step
+step call answer count0 count1 = record { call = call; answer = answer; count0 = count0; count1 = count1 }
 
--- a state that is not sound, over a row of two slots
-abbrev pub before : State
-before = record {
-  director = record { service = service; servers = replicate 64 unused; walk = startOf 1 2; clock = 99 };
-  row = replicate 10 7;
-}
+-- the calls in a row from a state on: what the rules give, beside what is printed
+abbrev pub told : State → List Step → List Case
+told s [] = []
+told s (c ∷ cs) =
+    let r = next s (c .call) in
+    record {
+      given = answered (called s (c .call) .answer) ++ (countAt (r .director .servers) 0 ∷ countAt (r .director .servers) 1 ∷ []);
+      printed = c .answer ++ (c .count0 ∷ c .count1 ∷ []);
+    }
+    ∷ told r cs
 
--- P11's packet with another word of data offset and flags: SYN (as in P11), FIN, RST
-abbrev pub withFlags : ℕ → List ℕ
-withFlags word =
-    bytes (0x45000028 ∷ 0x00004000 ∷ 0x40066EC5 ∷ 0x0A000001 ∷ 0xC000020A ∷ 0x9C401538 ∷ 0x00000000 ∷ 0x00000000 ∷ word ∷ 0x325F0000 ∷ [])
+-- TCP, round-robin
 
-abbrev pub syn : List ℕ
-syn = withFlags 0x50020000
-
-abbrev pub fin : List ℕ
-fin = withFlags 0x50010000
-
-abbrev pub rst : List ℕ
-rst = withFlags 0x50040000
-
+-- "setup zeroes the row, all counts and the clock" (SCOPE 3.3)
 abbrev pub first : Call
-first = setUp service twoServers
+first = setUp (serviceOf 6 1 2) (twoServers 1 7 1 9)
 
-abbrev pub rest : List Call
-rest =
-    packet Way.Inbound syn 10
-    ∷ packet Way.Inbound fin 20
-    ∷ count 0
-    ∷ packet Way.Inbound rst 30
-    ∷ count 0
-    ∷ tick 29
-    ∷ packet Way.Inbound syn 40
-    ∷ tick 939
-    ∷ tick 940
+-- In a row of two slots, with clients 40000, 40001 and 40002
+
+-- two connections, each with packets both ways; a third finds no slot
+abbrev pub openingSteps : List Step
+openingSteps =
+    step (fromClient 40000 syn 10) (opened 0) 1 0
+    ∷ step (fromServer0 40000 synAck 11) (kept 0) 1 0
+    ∷ step (fromClient 40001 syn 12) (opened 1) 1 1
+    ∷ step (fromServer0 40001 synAck 13) (refused 12) 1 1
+    ∷ step (fromServer1 40001 synAck 13) (kept 1) 1 1
+    ∷ step (fromClient 40002 ack 13) (refused 12) 1 1
+    ∷ step (fromClient 40002 syn 14) (refused 13) 1 1
+    ∷ step (tick 13) (refused 11) 1 1
+    -- it did not move the walk (SCOPE 12.3): 0 is next
+    ∷ step (fromClient 40001 rst 15) (ended 1) 1 0
+    ∷ step (fromClient 40002 syn 15) (opened 0) 2 0
+    ∷ step (fromServer0 40002 rst 15) (ended 0) 1 0
+    ∷ step (fromClient 40001 syn 15) (opened 1) 1 1
     ∷ []
 
-abbrev pub server : ℕ → ServerNo
-server k = record { 0 = k }
+-- server 0 is drained: who is new goes to server 1, who is there stays
+abbrev pub drainSteps : List Step
+drainSteps =
+    step (setWeight 0 0) done 1 1
+    ∷ step (fromClient 40001 rst 16) (ended 1) 1 0
+    ∷ step (fromClient 40002 syn 16) (opened 1) 1 1
+    ∷ step (fromClient 40000 ack 17) (kept 0) 1 1
+    ∷ step (tick 16) (refused 11) 1 1
+    -- "RST is looked at first" (SCOPE 8.8): with FIN and ACK
+    ∷ step (fromServer1 40002 0x15 18) (ended 1) 1 0
+    ∷ step (setWeight 1 0) done 1 0
+    ∷ step (fromClient 40002 syn 19) (refused 14) 1 0
+    ∷ step (tick 18) (refused 11) 1 0
+    ∷ step (setWeight 1 1) done 1 0
+    -- the clock of a packet for another port is not stored
+    ∷ step (packet Way.Inbound (tcpPacket 0x6EC5 0x0A000001 0xC000020A (ports 40000 5433) rst) 900) (refused 10) 1 0
+    ∷ []
 
--- the setup is accepted and every call fits: the premise can be met; and what is answered
+-- FIN from the client, twice, then from the server, then a SYN (SCOPE 8.11): the count falls 120 s after the last packet
+abbrev pub finSteps : List Step
+finSteps =
+    step (fromClient 40000 fin 20) (kept 0) 1 0
+    ∷ step (fromClient 40000 fin 21) (kept 0) 1 0
+    ∷ step (count 0) (number 1) 1 0
+    ∷ step (fromServer0 40000 finAck 22) (kept 0) 1 0
+    ∷ step (fromClient 40000 syn 30) (kept 0) 1 0
+    ∷ step (tick 149) (number 0) 1 0
+    ∷ step (count 0) (number 1) 1 0
+    ∷ step (tick 150) (number 1) 0 0
+    ∷ step (count 0) (number 0) 0 0
+    ∷ step (fromClient 40000 ack 151) (refused 12) 0 0
+    -- FIN from the server alone: 900 s; a packet that is refused removes it
+    ∷ step (fromClient 40000 syn 200) (opened 1) 0 1
+    ∷ step (fromServer1 40000 finAck 210) (kept 1) 0 1
+    ∷ step (fromClient 40002 ack 1109) (refused 12) 0 1
+    ∷ step (fromClient 40002 ack 1110) (refused 12) 0 0
+    ∷ step (tick 1109) (refused 11) 0 0
+    -- FIN from the server first
+    ∷ step (fromClient 40000 syn 1110) (opened 1) 0 1
+    ∷ step (fromServer1 40000 finAck 1111) (kept 1) 0 1
+    ∷ step (fromClient 40000 finAck 1112) (kept 1) 0 1
+    ∷ step (tick 1231) (number 0) 0 1
+    ∷ step (tick 1232) (number 1) 0 0
+    ∷ []
+
+-- server 0 is put back; a setup that is refused leaves all as it is; an accepted one forgets all, weights, walk and clock included
+abbrev pub setupSteps : List Step
+setupSteps =
+    step (setWeight 0 1) done 0 0
+    ∷ step (fromClient 40000 syn 1300) (opened 0) 1 0
+    ∷ step (setWeight 0 0) done 1 0
+    ∷ step (setUp (serviceOf 6 1 0) (twoServers 1 0 1 0)) (refused 1) 1 0
+    ∷ step (fromClient 40000 ack 1300) (kept 0) 1 0
+    ∷ step (setWeight 2 1) (refused 5) 1 0
+    ∷ step first done 0 0
+    ∷ step (fromClient 40000 ack 0) (refused 12) 0 0
+    ∷ step (fromClient 40000 syn 0) (opened 0) 1 0
+    ∷ []
+
+abbrev pub afterFirst : List Step
+afterFirst = openingSteps ++ drainSteps ++ finSteps ++ setupSteps
+
+abbrev pub rest : List Call
+rest = map (λ (c : Step). c .call) afterFirst
+
+-- 15 can't come after a setup (SCOPE 6.8), so it comes before
+abbrev pub tcpRun : List Step
+tcpRun = step (count 0) (refused 15) 0 0 ∷ step first done 0 0 ∷ afterFirst
+
+-- UDP, least-connection, in a row of three slots
+
+-- a datagram with data, which would be FIN and RST in TCP
+abbrev pub datagram : (port now : ℕ) → Call
+datagram port now =
+    packet Way.Inbound
+    (bytes (0x45000028 ∷ 0x00004000 ∷ 0x40116EBA ∷ 0x0A000001 ∷ 0xC000020A ∷ ports port 5432 ∷ 0x00140000 ∷ 0x00000000 ∷ 0x50050000 ∷ 0x325F0000 ∷ []))
+    now
+
+abbrev pub udpRun : List Step
+udpRun =
+    step (setUp (serviceOf 17 3 2) (twoServers 1 0 1 0)) done 0 0
+    ∷ step (udpFromServer0 40000 9) (refused 12) 0 0
+    ∷ step (udpFromClient 40000 10) (opened 0) 1 0
+    ∷ step (udpFromClient 40001 11) (opened 1) 1 1
+    -- "ties to the lowest number" (SCOPE 10.8)
+    ∷ step (udpFromClient 40002 12) (opened 0) 2 1
+    ∷ step (udpFromClient 40003 12) (refused 13) 2 1
+    ∷ step (datagram 40000 20) (kept 0) 2 1
+    ∷ step (udpFromServer0 40000 30) (kept 0) 2 1
+    ∷ step (udpFromServer1 40000 31) (refused 12) 2 1
+    -- each goes 300 s after its last packet
+    ∷ step (tick 310) (number 0) 2 1
+    ∷ step (tick 311) (number 1) 2 0
+    ∷ step (udpFromClient 40003 312) (opened 1) 1 1
+    ∷ step (udpFromServer0 40000 329) (kept 0) 1 1
+    -- server 1 is drained
+    ∷ step (setWeight 1 0) done 1 1
+    ∷ step (udpFromClient 40003 330) (kept 1) 1 1
+    ∷ step (udpFromClient 40004 331) (opened 0) 2 1
+    ∷ step (tick 629) (number 1) 1 1
+    ∷ step (tick 630) (number 1) 1 0
+    ∷ step (count 1) (number 0) 1 0
+    ∷ step (tick 700) (number 1) 0 0
+    ∷ []
+
+-- Weighted round-robin, in a row of five slots: "a weight set to a different number restarts this walk; an equal one changes nothing" (SCOPE 10.7)
+
+abbrev pub restartRun : List Step
+restartRun =
+    step (setUp (serviceOf 6 2 2) (twoServers 2 0 1 0)) done 0 0
+    ∷ step (fromClient 40000 syn 1) (opened 0) 1 0
+    ∷ step (fromClient 40001 syn 1) (opened 0) 2 0
+    ∷ step (setWeight 0 2) done 2 0
+    ∷ step (fromClient 40002 syn 1) (opened 1) 2 1
+    ∷ step (fromClient 40003 syn 1) (opened 0) 3 1
+    -- 1 would be next
+    ∷ step (setWeight 1 2) done 3 1
+    ∷ step (fromClient 40004 syn 1) (opened 0) 4 1
+    ∷ []
+
+-- Weighted least-connection, weights 1 and 3, in a row of five slots: "ties to the lowest number" (SCOPE 10.9)
+
+abbrev pub weightedRun : List Step
+weightedRun =
+    step (setUp (serviceOf 6 4 2) (twoServers 1 0 3 0)) done 0 0
+    ∷ step (fromClient 40000 syn 1) (opened 0) 1 0
+    ∷ step (fromClient 40001 syn 1) (opened 1) 1 1
+    ∷ step (fromClient 40002 syn 1) (opened 1) 1 2
+    ∷ step (fromClient 40003 syn 1) (opened 1) 1 3
+    ∷ step (fromClient 40004 syn 1) (opened 0) 2 3
+    ∷ []
+
+-- the premise of demand 3 can be met: the setup is accepted and every call fits
 pub record Premise : Type 0 where
   pub fits : Fits first
   pub all-fit : AllFit rest
-  pub answers : map (λ (l : Line). l .answer) (recordOf before (first ∷ rest))
-      ≡ Answer.Done
-      ∷ Answer.Passed (server 0) Change.Opened
-      ∷ Answer.Passed (server 0) Change.Kept
-      ∷ Answer.Number 1
-      ∷ Answer.Passed (server 0) Change.Ended
-      ∷ Answer.Number 0
-      ∷ Answer.Refused Refusal.EarlierClock
-      ∷ Answer.Passed (server 1) Change.Opened
-      ∷ Answer.Number 0
-      ∷ Answer.Number 1
-      ∷ []
+  pub accepted : called (unsound 10) first .answer ≡ Answer.Done
+
+pub record Runs : Type 0 where
+  pub premise : Premise
+  pub tcp : Hold (told (unsound 10) tcpRun)
+  pub udp : Hold (told (unsound 15) udpRun)
+  pub restart : Hold (told (unsound 25) restartRun)
+  pub weighted : Hold (told (unsound 25) weightedRun)
