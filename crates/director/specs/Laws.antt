@@ -1,0 +1,62 @@
+-- What opens, the phases and the refusals' numbers, with SCOPE's values written out: a rule that is wrong in code and definition alike breaks one
+-- of these. Assumes nothing: these are statements; proofs/Laws.antt proves them (`laws`).
+use Prim.Native.Nat.{ℕ, _-_}
+use mathlib.Core.Bool.{Bool, true, false}
+use mathlib.Core.List.{List, [], _∷_, map}
+use mathlib.Core.Logic.{_↔_}
+use mathlib.Core.Path.{_≡_}
+use lib.ListN.{getD}
+use Rattle.lists.specs.Tests.{keep}
+use Rattle.packet.specs.declared.read.Fault.{Fault}
+use Rattle.packet.specs.declared.read.Flags.{Flags}
+use Rattle.servers.specs.declared.ServerNo.{ServerNo}
+use Rattle.director.specs.declared.state.Refusal.{Refusal}
+use Rattle.director.specs.declared.segment.Sender.{Sender}
+use Rattle.director.specs.declared.segment.Segment.{Segment}
+use Rattle.director.specs.State.{refusalNumber, keepsClock}
+use Rattle.director.specs.Decide.{opens}
+use Rattle.director.specs.Carry.{phaseOf}
+
+-- "SYN set and ACK, RST, FIN clear" (SCOPE 8.3)
+abbrev pub synAlone : Flags
+synAlone = record { syn = true; ack = false; rst = false; fin = false }
+
+-- what phases 1 to 4 become by a packet
+abbrev pub phasesBy : Bool → Sender → List ℕ
+phasesBy fin sender = map (λ (phase : ℕ). phaseOf phase fin sender) (1 ∷ 2 ∷ 3 ∷ 4 ∷ [])
+
+-- the refusals in the order of SCOPE section 4
+abbrev pub refusals : List Refusal
+refusals =
+    Refusal.Size
+    ∷ Refusal.Service
+    ∷ Refusal.ServerUnset
+    ∷ Refusal.ServerRepeated
+    ∷ Refusal.NoServer
+    ∷ Refusal.Packet Fault.MalformedHeader
+    ∷ Refusal.Packet Fault.Fragment
+    ∷ Refusal.Packet Fault.OtherProtocol
+    ∷ Refusal.Packet Fault.MalformedTransport
+    ∷ Refusal.OtherEndpoint
+    ∷ Refusal.EarlierClock
+    ∷ Refusal.NoConnection
+    ∷ Refusal.TableFull
+    ∷ Refusal.NoWeight
+    ∷ Refusal.Unsound
+    ∷ []
+
+pub record Laws : Type 0 where
+  -- a client's packet of TCP (6) opens with these flags and no others; "any UDP inbound" (SCOPE 8.3), which is 17
+  pub opens-tcp : (m : Segment) → m .sender ≡ Sender.Client → (opens 6 m ≡ true) ↔ (m .flags ≡ synAlone)
+  pub opens-udp : (m : Segment) → m .sender ≡ Sender.Client → opens 17 m ≡ true
+  -- "Outbound packets open nothing." (SCOPE 8.5)
+  pub opens-none : (protocol : ℕ) (m : Segment) (i : ServerNo) → m .sender ≡ Sender.Server i → opens protocol m ≡ false
+  -- "An inbound FIN moves 1 to 2 and 3 to 4; outbound moves 1 to 3 and 2 to 4." (SCOPE 8.7) Without FIN a phase stays.
+  pub fin-inbound : phasesBy true Sender.Client ≡ 2 ∷ 2 ∷ 4 ∷ 4 ∷ []
+  pub fin-outbound : (i : ServerNo) → phasesBy true (Sender.Server i) ≡ 3 ∷ 4 ∷ 3 ∷ 4 ∷ []
+  pub fin-clear : (sender : Sender) → phasesBy false sender ≡ 1 ∷ 2 ∷ 3 ∷ 4 ∷ []
+  -- the list names every refusal, each at the place that its number says
+  pub all-named : (why : Refusal) → getD refusals (refusalNumber why - 1) Refusal.Size ≡ why
+  pub numbers : map refusalNumber refusals ≡ 1 ∷ 2 ∷ 3 ∷ 4 ∷ 5 ∷ 6 ∷ 7 ∷ 8 ∷ 9 ∷ 10 ∷ 11 ∷ 12 ∷ 13 ∷ 14 ∷ 15 ∷ []
+  -- "12, 13 and 14 keep that" (SCOPE 5.4): the clock and the idle removal
+  pub clock-kept : map refusalNumber (keep keepsClock refusals) ≡ 12 ∷ 13 ∷ 14 ∷ []
