@@ -1,5 +1,5 @@
 -- The laws of specs/Laws.antt: over every set of flags and every refusal; the tables by computation. Assumes nothing.
-use Prim.Native.Nat.{ℕ, _-_}
+use Prim.Native.Nat.{_-_}
 use mathlib.Core.Bool.{Bool, true, false, false≢true}
 use mathlib.Core.Path.{_≡_, refl}
 use lib.ListN.{getD}
@@ -10,17 +10,20 @@ use Rattle.director.specs.declared.state.Refusal.{Refusal}
 use Rattle.director.specs.State.{refusalNumber}
 use Rattle.director.specs.Decide.{isSyn}
 use Rattle.director.specs.Laws.{synAlone, refusals, Laws}
+use Rattle.director.proofs.Keeping.{unsound-first}
+use Rattle.director.proofs.Decisions.{full-first}
+use Rattle.director.proofs.KeepingPackets.{unread-first}
 
 abbrev flags : (syn ack rst fin : Bool) → Flags
 flags syn ack rst fin = record { syn = syn; ack = ack; rst = rst; fin = fin }
 
 -- of the 16 sets of flags one is a SYN
 alone : (syn ack rst fin : Bool) → isSyn (flags syn ack rst fin) ≡ true → flags syn ack rst fin ≡ synAlone
-alone true false false false e = refl
-alone false false false false e = absurd (false≢true e)
-alone syn false false true e = absurd (false≢true e)
-alone syn false true fin e = absurd (false≢true e)
 alone syn true rst fin e = absurd (false≢true e)
+alone syn false true fin e = absurd (false≢true e)
+alone syn false false true e = absurd (false≢true e)
+alone false false false false e = absurd (false≢true e)
+alone true false false false e = refl
 
 named : (why : Refusal) → getD refusals (refusalNumber why - 1) Refusal.Size ≡ why
 named Refusal.Size = refl
@@ -51,4 +54,7 @@ laws = record {
   all-named = named;
   numbers = refl;
   clock-kept = refl;
+  unsound-first = unsound-first;
+  unread-first = unread-first;
+  full-first = full-first;
 }
