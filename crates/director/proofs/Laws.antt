@@ -1,4 +1,5 @@
--- The laws of specs/Laws.antt: over every set of flags and every refusal; the tables by computation. Assumes nothing.
+-- The laws of specs/Laws.antt: over every set of flags and every refusal; the tables by computation. Those of the order are proved beside the
+-- calls that they are about. Assumes nothing.
 use Prim.Native.Nat.{_-_}
 use mathlib.Core.Bool.{Bool, true, false, false≢true}
 use mathlib.Core.Path.{_≡_, refl}

@@ -1,5 +1,5 @@
--- What opens, the phases, the refusals' numbers and their order, with SCOPE's values written out: a rule that is wrong in code and definition
--- alike breaks one of these. Assumes nothing: these are statements; proofs/Laws.antt proves them (`laws`).
+-- What opens, the phases, the refusals' numbers and, at three places, their order, with SCOPE's values written out: where one of these is wrong
+-- in code and definition alike, a statement here fails. Assumes nothing: these are statements; proofs/Laws.antt proves them (`laws`).
 use Prim.Native.Nat.{ℕ, _-_}
 use mathlib.Core.Bool.{Bool, true, false}
 use mathlib.Core.List.{List, [], _∷_, map}
