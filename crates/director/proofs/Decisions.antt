@@ -29,6 +29,7 @@ use Rattle.director.specs.declared.decide.Decision.{Decision}
 use Rattle.director.specs.State.{refusalNumber, keepsClock}
 use Rattle.director.specs.Judge.{isProtocol, serviceRight}
 use Rattle.director.specs.Decide.{opensBy, opens, belongs, onRst, onPresent, onPick, onRoom, onAbsent, onClient, decided}
+use Rattle.director.specs.Laws.{FullFirst}
 use Rattle.director.proofs.Sound.{Sound}
 
 -- 1. What is known of a decision
@@ -80,7 +81,13 @@ pub others-open-none : (protocol : ℕ) (f : Flags) (sender : Sender) (i : Serve
 others-open-none protocol f Sender.Client i e = absurd (true≢false e)
 others-open-none protocol f (Sender.Server j) i e = refl
 
--- 3. Every decision has its grounds
+-- 3. Room is asked for before a weight
+
+pub full-first : FullFirst
+unfolding decided
+full-first d l m absent new full = rw (absent, new, full) refl
+
+-- 4. Every decision has its grounds
 
 pub scheduler-known : (g : Service) → serviceRight g ≡ true → isScheduler (g .scheduler) ≡ true
 scheduler-known g e =

@@ -27,6 +27,7 @@ use Rattle.director.specs.Judge.{settingsJudged, soundOf}
 use Rattle.director.specs.Setup.{newDirector, onVerdict, setupOf}
 use Rattle.director.specs.Control.{numberJudged, weighed, onWeight, weightOf, onCount, countCallOf}
 use Rattle.director.specs.Tick.{tickOnClock, tickOf}
+use Rattle.director.specs.Laws.{UnsoundFirst}
 use Rattle.director.proofs.Sound.{Accepted, judged, sound-parts, sound-words}
 use Rattle.director.proofs.Leaving.{Leaves, leaves-all, leaves-changed, leaves-judged}
 use Rattle.director.proofs.Refusals.{EarlyVerdict, settings-early}
@@ -54,6 +55,10 @@ setup-leaves d g given row = on-verdict (settingsJudged g given row) refl (setti
     on-verdict (Verdict.Refused why) e early = leaves-all d (lent row []) why (early .back)
 
 -- 2. Weight, count and tick of a sound state
+
+pub unsound-first : UnsoundFirst
+unfolding numberJudged
+unsound-first d row k unsound = rw unsound refl
 
 -- a table stays sound with servers of the same counts
 same-counts : (protocol n clock : ℕ) (row : List ℕ) (s t : List Server) → length t ≡ length s → ((j : ℕ) → countAt t j ≡ countAt s j)

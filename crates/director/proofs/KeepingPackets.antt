@@ -23,6 +23,7 @@ use Rattle.director.specs.Segment.{segmentRead}
 use Rattle.director.specs.Decide.{decided}
 use Rattle.director.specs.Carry.{carriedOut}
 use Rattle.director.specs.Packets.{routed, onClock, onSeen, packetHeld, packetOf}
+use Rattle.director.specs.Laws.{UnreadFirst}
 use Rattle.director.proofs.Sound.{sound-parts, sound-words}
 use Rattle.director.proofs.Settled.{settled-sound}
 use Rattle.director.proofs.Leaving.{LeavesSound, Leaves, leaves-all, leaves-changed, leaves-judged}
@@ -30,6 +31,10 @@ use Rattle.director.proofs.Refusals.{EarlySeen, read-early}
 use Rattle.director.proofs.Segments.{ReadFrom, read-from, port-below, udp-unfinished}
 use Rattle.director.proofs.Decisions.{Grounded, decided-grounded}
 use Rattle.director.proofs.Carried.{carried-sound}
+
+pub unread-first : UnreadFirst
+unfolding packetHeld
+unread-first way d x now why unread = rw unread refl
 
 -- past 11 the clock is kept
 pub clock-kept : (d : Director) (x : Lent (List Slot)) (m : Segment) (a : Decision) → Grounded d (x .table) m a

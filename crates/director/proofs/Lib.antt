@@ -10,3 +10,4 @@ pub mod Feasible
 pub mod Carried
 pub mod KeepingPackets
 pub mod Idle
+pub mod Laws

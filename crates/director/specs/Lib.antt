@@ -7,3 +7,4 @@ pub mod Segment
 pub mod Decide
 pub mod Carry
 pub mod Packets
+pub mod Laws

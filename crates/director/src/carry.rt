@@ -33,19 +33,19 @@ ghost use Rattle.director.specs.Carry.{phaseOf, sentOn, forwarded, withS
 fn phase_after(phase: u32, fin: bool, sender: Sender) -> u32
     ensures { λ r. ⌜ r ≡ phaseOf phase fin sender ⌝ }
 {
-    if !fin {
-        return phase;
-    }
-    match sender {
-        Sender::Client => match phase {
-            1 => 2,
-            3 => 4,
-            _ => phase,
-        },
-        Sender::Server(_) => match phase {
-            1 => 3,
-            2 => 4,
-            _ => phase,
+    match fin {
+        false => phase,
+        true => match sender {
+            Sender::Client => match phase {
+                1 => 2,
+                3 => 4,
+                _ => phase,
+            },
+            Sender::Server(_) => match phase {
+                1 => 3,
+                2 => 4,
+                _ => phase,
+            },
         },
     }
 }

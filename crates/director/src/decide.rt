@@ -33,16 +33,17 @@ pub enum Decision {
 fn is_syn(flags: Flags) -> bool
     ensures { λ r. ⌜ r ≡ isSyn flags ⌝ }
 {
-    if flags.ack {
-        return false;
+    let Flags { syn, ack, rst, fin } = flags;
+    match ack {
+        true => false,
+        false => match rst {
+            true => false,
+            false => match fin {
+                true => false,
+                false => syn,
+            },
+        },
     }
-    if flags.rst {
-        return false;
-    }
-    if flags.fin {
-        return false;
-    }
-    flags.syn
 }
 
 // Whether a packet opens a connection where its client has none.
@@ -80,10 +81,11 @@ fn decide_present(row: &[u32], segment: Segment, k: SlotNo) -> Decision
         return Decision::Refuse(Refusal::NoConnection);
     }
     let flags = segment.flags;
-    if flags.rst {
-        return Decision::End(k);
+    let rst = flags.rst;
+    match rst {
+        true => Decision::End(k),
+        false => Decision::Keep(k),
     }
-    Decision::Keep(k)
 }
 
 // A packet that would open a connection in the free slot `k`.

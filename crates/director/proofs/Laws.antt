@@ -1,0 +1,61 @@
+-- The laws of specs/Laws.antt: over every set of flags and every refusal; the tables by computation. Those of the order are proved beside the
+-- calls that they are about. Assumes nothing.
+use Prim.Native.Nat.{_-_}
+use mathlib.Core.Bool.{Bool, true, false, false≢true}
+use mathlib.Core.Path.{_≡_, refl}
+use lib.ListN.{getD}
+use Rattle.lists.specs.Tests.{keep}
+use Rattle.packet.specs.declared.read.Fault.{Fault}
+use Rattle.packet.specs.declared.read.Flags.{Flags}
+use Rattle.director.specs.declared.state.Refusal.{Refusal}
+use Rattle.director.specs.State.{refusalNumber}
+use Rattle.director.specs.Decide.{isSyn}
+use Rattle.director.specs.Laws.{synAlone, refusals, Laws}
+use Rattle.director.proofs.Keeping.{unsound-first}
+use Rattle.director.proofs.Decisions.{full-first}
+use Rattle.director.proofs.KeepingPackets.{unread-first}
+
+abbrev flags : (syn ack rst fin : Bool) → Flags
+flags syn ack rst fin = record { syn = syn; ack = ack; rst = rst; fin = fin }
+
+-- of the 16 sets of flags one is a SYN
+alone : (syn ack rst fin : Bool) → isSyn (flags syn ack rst fin) ≡ true → flags syn ack rst fin ≡ synAlone
+alone syn true rst fin e = absurd (false≢true e)
+alone syn false true fin e = absurd (false≢true e)
+alone syn false false true e = absurd (false≢true e)
+alone false false false false e = absurd (false≢true e)
+alone true false false false e = refl
+
+named : (why : Refusal) → getD refusals (refusalNumber why - 1) Refusal.Size ≡ why
+named Refusal.Size = refl
+named Refusal.Service = refl
+named Refusal.ServerUnset = refl
+named Refusal.ServerRepeated = refl
+named Refusal.NoServer = refl
+named (Refusal.Packet Fault.MalformedHeader) = refl
+named (Refusal.Packet Fault.Fragment) = refl
+named (Refusal.Packet Fault.OtherProtocol) = refl
+named (Refusal.Packet Fault.MalformedTransport) = refl
+named Refusal.OtherEndpoint = refl
+named Refusal.EarlierClock = refl
+named Refusal.NoConnection = refl
+named Refusal.TableFull = refl
+named Refusal.NoWeight = refl
+named Refusal.Unsound = refl
+
+pub laws : Laws
+unfolding keep
+laws = record {
+  opens-tcp = λ m client. rw client (λ e. alone (m .flags .syn) (m .flags .ack) (m .flags .rst) (m .flags .fin) e, λ q. rw q);
+  opens-udp = λ m client. rw client;
+  opens-none = λ protocol m i server. rw server;
+  fin-inbound = refl;
+  fin-outbound = λ i. refl;
+  fin-clear = λ sender. refl;
+  all-named = named;
+  numbers = refl;
+  clock-kept = refl;
+  unsound-first = unsound-first;
+  unread-first = unread-first;
+  full-first = full-first;
+}
