@@ -1,22 +1,17 @@
 -- What holds of every scheduler holds of the scheduler of a number; and the numbers that are no scheduler's. Assumes nothing.
-use mathlib.Core.Bool.{true, false}
+use mathlib.Core.Bool.{false}
 use mathlib.Core.Path.{_≡_}
-use mathlib.Core.Logic.{_≢_, ⊎-elim}
-use Prim.Native.Nat.{ℕ, _≤_}
-use native.Mathlib.Omega.{arith}
-use lib.Dec.{eqb, leb}
-use borrow.Author.Tests.{ne-eqb, eqb-false, leb-true}
-use Rattle.lists.proofs.Cases.{by-test, both, truth}
+use mathlib.Core.Logic.{_≢_}
+use Prim.Native.Nat.{ℕ}
+use lib.Dec.{eqb}
+use borrow.Author.Tests.{ne-eqb}
+use Rattle.lists.proofs.Cases.{by-test}
 use Rattle.scheduler.specs.Scheduler.{Scheduler}
 use Rattle.scheduler.specs.RoundRobin.{roundRobin}
 use Rattle.scheduler.specs.WeightedRoundRobin.{weightedRoundRobin}
 use Rattle.scheduler.specs.LeastConnection.{leastConnection}
 use Rattle.scheduler.specs.WeightedLeastConnection.{weightedLeastConnection}
 use Rattle.scheduler.specs.ByNumber.{isScheduler, noScheduler, schedulerOf}
-
--- a scheduler's number is one of these
-known : (k : ℕ) → isScheduler k ≡ true → (1 ≤ k) × (k ≤ 4)
-known k h = let (low, high) = both (leb 1 k) (leb k 4) h in (leb-true 1 k low, leb-true k 4 high)
 
 pub by-number : (P : Scheduler → Type 0) (k : ℕ)
     → P roundRobin → P weightedRoundRobin → P leastConnection → P weightedLeastConnection → (isScheduler k ≡ false → P noScheduler)
@@ -26,11 +21,7 @@ by-number P k p₁ p₂ p₃ p₄ other =
     (λ n₁. by-test P (eqb k 2) _ _ (λ e. p₂)
     (λ n₂. by-test P (eqb k 3) _ _ (λ e. p₃)
     (λ n₃. by-test P (eqb k 4) _ _ (λ e. p₄)
-    (λ n₄. other
-    (⊎-elim
-    (λ h. absurd (omega (arith, known k h, eqb-false k 1 n₁, eqb-false k 2 n₂, eqb-false k 3 n₃, eqb-false k 4 n₄)))
-    (λ h. h)
-    (truth (isScheduler k)))))))
+    (λ n₄. other (rw (n₁, n₂, n₃, n₄))))))
 
 pub other-number : (k : ℕ) → k ≢ 1 → k ≢ 2 → k ≢ 3 → k ≢ 4 → noScheduler ≡ schedulerOf k
 other-number k a b c d = simp (ne-eqb k 1 a, ne-eqb k 2 b, ne-eqb k 3 c, ne-eqb k 4 d)

@@ -1,8 +1,8 @@
 -- The schedulers by their numbers. Assumes nothing: these are definitions.
-use mathlib.Core.Bool.{Bool, cond, _&&_}
+use mathlib.Core.Bool.{Bool, cond, _||_}
 use mathlib.Core.List.{List}
 use Prim.Native.Nat.{ℕ}
-use lib.Dec.{eqb, leb}
+use lib.Dec.{eqb}
 use Rattle.servers.specs.declared.Server.{Server}
 use Rattle.scheduler.specs.Scheduler.{Scheduler, holding}
 use Rattle.scheduler.specs.RoundRobin.{roundRobin}
@@ -14,7 +14,7 @@ use Rattle.scheduler.specs.declared.walk.Picked.{Picked}
 
 -- refusal 2 is given for "scheduler not 1..4" (SCOPE 4.2)
 abbrev pub isScheduler : ℕ → Bool
-isScheduler k = leb 1 k && leb k 4
+isScheduler k = eqb k 1 || eqb k 2 || eqb k 3 || eqb k 4
 
 -- by a number that is no scheduler's nobody is picked
 abbrev pub noScheduler : Scheduler

@@ -21,7 +21,13 @@ ghost use Rattle.scheduler.specs.ByNumber.{isScheduler, startOf, inRange
 pub fn is_scheduler(scheduler: u8) -> bool
     ensures { λ r. ⌜ r ≡ isScheduler scheduler ⌝ }
 {
-    (1 <= scheduler) & (scheduler <= 4)
+    match scheduler {
+        1 => true,
+        2 => true,
+        3 => true,
+        4 => true,
+        _ => false,
+    }
 }
 
 // The walk at its scheduler's start.

@@ -5,7 +5,7 @@ ghost use Prim.Native.Nat.{_<_, _≤_, _-_, _/_};
 ghost use lib.ListN.{length};
 ghost use Rattle.lists.specs.Tests.{countOf};
 ghost use Rattle.table.specs.Slots.{wordsPerSlot, slots, words, slotAt};
-ghost use Rattle.table.specs.Expire.{idleLimit, isIdle, loweredBy};
+ghost use Rattle.table.specs.Expire.{idleLimit, limitsAt, isIdle, loweredBy};
 ghost use Rattle.table.specs.Changes.{idleRemoved};
 ghost use Rattle.table.specs.Sound.{tableSound};
 use crate::change::free_slot;
@@ -14,6 +14,7 @@ use crate::slot::SlotNo;
 use crate::slot::WORDS;
 use crate::slot::server_no_at;
 use servers::Server;
+use servers::lower;
 
 // What expiry leaves beside the row: the servers, and how many connections were removed.
 pub struct Expired {
@@ -47,22 +48,54 @@ fn recent_after(clock: u32) -> u32
     clock - SHORTEST
 }
 
+// The idle limits in seconds, and the clock less the shortest of them (or 0): what the loop over the slots compares with. (With a test of
+// the protocol in it the compiler writes the loop twice; that is too long to be inlined, and costs copies of the state.)
+struct Limits {
+    // phases 1 to 3
+    running: u32,
+    // phase 4
+    finished: u32,
+    recent: u32,
+}
+
+// The limits of a protocol at a clock.
+fn limits_at(protocol: u8, clock: u32) -> Limits
+    ensures { λ r. ⌜ r ≡ limitsAt protocol clock ⌝ }
+{
+    Limits {
+        running: idle_limit(protocol, 1),
+        finished: idle_limit(protocol, 4),
+        recent: recent_after(clock),
+    }
+}
+
+// The limit of a phase.
+fn limit_in(phase: u32, protocol: u8, clock: u32, limits: Limits) -> u32
+    requires { ⌜ limits ≡ limitsAt protocol clock ⌝ }
+    ensures { λ r. ⌜ r ≡ idleLimit protocol phase ⌝ }
+{
+    match phase {
+        4 => limits.finished,
+        _ => limits.running,
+    }
+}
+
 // Whether slot `k`, which was not seen after the clock, holds an idle connection. Most slots of a busy table were seen
-// within the shortest limit, so that is asked first: one comparison with `recent`, which the loop over the slots keeps.
-fn is_idle_at(row: &[u32], k: SlotNo, protocol: u8, clock: u32, recent: u32) -> bool
-    requires { ⌜ (k .0 < length (now row) / wordsPerSlot) × (slotAt (now row) (k .0) .seen ≤ clock) × (recent ≡ clock - 120) ⌝ }
+// within the shortest limit, so that is asked first.
+fn is_idle_at(row: &[u32], k: SlotNo, protocol: u8, clock: u32, limits: Limits) -> bool
+    requires { ⌜ (k .0 < length (now row) / wordsPerSlot) × (slotAt (now row) (k .0) .seen ≤ clock) × (limits ≡ limitsAt protocol clock) ⌝ }
     ensures { λ r. ⌜ r ≡ isIdle protocol clock (slotAt (now (row .entry)) (k .0)) ⌝ }
 {
     let at = WORDS * k.0;
     let seen = row[at + SEEN];
-    if recent < seen {
+    if limits.recent < seen {
         return false;
     }
     let phase = row[at];
-    if phase == 0 {
-        return false;
+    match phase {
+        0 => false,
+        _ => limit_in(phase, protocol, clock, limits) <= clock - seen,
     }
-    idle_limit(protocol, phase) <= clock - seen
 }
 
 // Every idle connection is removed from the row, and from its server's count.
@@ -75,12 +108,12 @@ pub fn expire(row: &mut [u32], servers: [Server; 64], protocol: u8, n: u32, cloc
     let end = row.len() / WORDS;
     let mut after = servers;
     let mut removed = 0;
-    let recent = recent_after(clock);
+    let limits = limits_at(protocol, clock);
     for k in 0..end {
-        if is_idle_at(row, SlotNo(k), protocol, clock, recent) {
+        if is_idle_at(row, SlotNo(k), protocol, clock, limits) {
             let no = server_no_at(row, SlotNo(k));
-            let j = no.0 as usize;
-            after[j].count -= 1;
+            let next = lower(after, no);
+            after = next;
             free_slot(row, SlotNo(k));
             removed += 1;
         }
