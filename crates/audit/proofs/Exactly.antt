@@ -48,11 +48,12 @@ use Rattle.director.specs.Segment.{inboundSegment, onNumber, onWay, onReading, 
 use Rattle.director.specs.Decide.{opens, belongs, onRst, onPresent, onPick, onRoom, onClient, decided}
 use Rattle.director.specs.Carry.{carriedOut}
 use Rattle.director.specs.Packets.{routed, onClock, onSeen, packetHeld, packetOf}
+use Rattle.director.specs.Laws.{isIts}
 use Rattle.director.proofs.Sound.{sound-parts}
 use Rattle.director.proofs.Settled.{settled-sound}
 use Rattle.director.proofs.Decisions.{others-open-none, scheduler-known}
 use Rattle.audit.specs.Calls.{Call, setUp, setWeight, count, tick, packet, State, called}
-use Rattle.audit.specs.Demand1.{lowestFailing, setupTests, numberTests, tickTests, transportMalformed, isElsewhere, isPresent, isIts, routeTests, seenTests, packetTests, tests, numberGiven}
+use Rattle.audit.specs.Demand1.{lowestFailing, setupTests, numberTests, tickTests, transportMalformed, isElsewhere, isPresent, routeTests, seenTests, packetTests, tests, numberGiven}
 
 -- 1. Setup, weight, count and tick
 

@@ -39,7 +39,8 @@ use Rattle.director.specs.Carry.{withServers, passed, carriedOut}
 use Rattle.director.specs.Packets.{routed}
 use Rattle.director.proofs.Sound.{sound-parts}
 use Rattle.director.proofs.Segments.{read-from, no-flags}
-use Rattle.director.proofs.Decisions.{isIts, hasIts, Its, Grounded, opens-here, decided-grounded}
+use Rattle.director.specs.Laws.{isIts}
+use Rattle.director.proofs.Decisions.{hasIts, Its, Grounded, opens-here, decided-grounded}
 use Rattle.director.proofs.Carried.{its-slot}
 use Rattle.audit.specs.Book.{Entry, Book, ofClient, names, clockAccepted, entered, noteAnswer}
 use Rattle.audit.specs.Claim.{refused, isOpened, isEnded, mine, isStray, Passed}

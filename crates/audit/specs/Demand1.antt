@@ -27,7 +27,8 @@ use Rattle.director.specs.State.{lent, Result, refusalNumber}
 use Rattle.director.specs.Judge.{sizesRight, serviceRight, soundOf}
 use Rattle.director.specs.Tick.{settled, settledSlots}
 use Rattle.director.specs.Segment.{segmentRead}
-use Rattle.director.specs.Decide.{opens, belongs}
+use Rattle.director.specs.Decide.{opens}
+use Rattle.director.specs.Laws.{isIts}
 use Rattle.audit.specs.Calls.{Call, setUp, setWeight, count, tick, packet, Fits, packetIn, State, called}
 
 -- 1. The tests of a call, in their order
@@ -71,14 +72,10 @@ abbrev pub isElsewhere : Way → Service → List Server → List ℕ → Bool
 isElsewhere Way.Inbound g servers p = not (eqb (addressAt p 16) (g .address) && eqb (wordAt (payload p) 2) (g .port))
 isElsewhere Way.Outbound g servers p = isNobody (numberOf servers (addressAt p 12) (wordAt (payload p) 0) (g .servers))
 
--- has the client a connection, in the slot that was found? And is it one "the packet belongs to" (SCOPE 4.12)?
+-- was a slot found?
 abbrev pub isPresent : Place → Bool
 isPresent Place.Nothing = false
 isPresent (Place.At k) = true
-
-abbrev pub isIts : List Slot → Segment → Place → Bool
-isIts l m Place.Nothing = false
-isIts l m (Place.At k) = belongs (m .sender) (getD l (k .0) freeSlot .server)
 
 -- 12 to 14, in a state whose clock is stored and whose idle connections are gone; the lowest slot of the client is its connection's (SCOPE 6.7)
 abbrev pub routeTests : Director → List Slot → Segment → List Test

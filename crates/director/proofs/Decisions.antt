@@ -29,16 +29,12 @@ use Rattle.director.specs.declared.decide.Decision.{Decision}
 use Rattle.director.specs.State.{refusalNumber, keepsClock}
 use Rattle.director.specs.Judge.{isProtocol, serviceRight}
 use Rattle.director.specs.Decide.{opensBy, opens, belongs, onRst, onPresent, onPick, onRoom, onAbsent, onClient, decided}
-use Rattle.director.specs.Laws.{FullFirst}
+use Rattle.director.specs.Laws.{isIts, FullFirst}
 use Rattle.director.proofs.Sound.{Sound}
 
 -- 1. What is known of a decision
 
--- has the packet's client a connection that it belongs to? Given the lowest slot of the client
-abbrev pub isIts : List Slot → Segment → Found → Bool
-isIts l m Found.Nothing = false
-isIts l m (Found.At k) = belongs (m .sender) (getD l (k .0) freeSlot .server)
-
+-- has the packet's client a connection that it belongs to?
 abbrev pub hasIts : List Slot → Segment → Bool
 hasIts l m = isIts l m (firstFrom (ofClient (m .address) (m .port)) 0 l)
 

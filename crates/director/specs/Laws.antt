@@ -12,7 +12,7 @@ use Rattle.packet.specs.declared.read.Flags.{Flags}
 use Rattle.servers.specs.declared.ServerNo.{ServerNo}
 use Rattle.table.specs.declared.slot.Slot.{Slot}
 use Rattle.table.specs.declared.find.Found.{Found}
-use Rattle.table.specs.Slots.{isUnused}
+use Rattle.table.specs.Slots.{freeSlot, isUnused}
 use Rattle.table.specs.Find.{ofClient, firstFrom}
 use Rattle.director.specs.declared.state.Director.{Director}
 use Rattle.director.specs.declared.state.Refusal.{Refusal}
@@ -26,7 +26,7 @@ use Rattle.director.specs.State.{refusalNumber, keepsClock, Lent, refusa
 use Rattle.director.specs.Judge.{soundOf}
 use Rattle.director.specs.Control.{numberJudged}
 use Rattle.director.specs.Segment.{segmentRead}
-use Rattle.director.specs.Decide.{opens, decided}
+use Rattle.director.specs.Decide.{opens, belongs, decided}
 use Rattle.director.specs.Carry.{phaseOf}
 use Rattle.director.specs.Packets.{packetHeld}
 
@@ -57,6 +57,11 @@ refusals =
     ∷ Refusal.NoWeight
     ∷ Refusal.Unsound
     ∷ []
+
+-- given the lowest slot of a packet's client: is it one of a connection that the packet belongs to (SCOPE 4.12)?
+abbrev pub isIts : List Slot → Segment → Found → Bool
+isIts l m Found.Nothing = false
+isIts l m (Found.At k) = belongs (m .sender) (getD l (k .0) freeSlot .server)
 
 -- the order of SCOPE 5.1: "The lowest-placed failing test in that order answers." (SCOPE 5.2)
 
