@@ -1,4 +1,4 @@
--- Packets leave as printed, by computation. Assumes nothing.
+-- Packets leave as printed, and the checksums of the laws are the printed ones, by computation. Assumes nothing.
 use mathlib.Core.Path.{refl}
 use Rattle.lists.specs.Fold.{foldBelow, allBelow}
 use Rattle.lists.specs.Tests.{countOf, allOf}
@@ -17,4 +17,4 @@ use Rattle.audit.specs.Forwarding.{Forwarding}
 
 pub forwarding : Forwarding
 unfolding foldBelow allBelow countOf allOf edited broken fragment tcpMalformed udpMalformed readPacket headerEdited sumWritten transportEdited redirected slots words firstFrom cleared loweredBy countsAre settingsJudged partsSound soundOf segmentRead decided routed packetHeld packetOf
-forwarding = refl
+forwarding = record { packets = refl; checksums = refl }
