@@ -27,7 +27,7 @@ use Rattle.scheduler.specs.Laws.{isNobody as nobodyPicked}
 use Rattle.scheduler.proofs.Picks.{pick-nobody}
 use Rattle.table.specs.declared.slot.Slot.{Slot}
 use Rattle.table.specs.declared.slot.SlotNo.{SlotNo}
-use Rattle.table.specs.declared.find.Found.{Found as Place}
+use Rattle.table.specs.declared.find.Found.{Found as FoundSlot}
 use Rattle.table.specs.Slots.{slots, words, freeSlot, isUnused}
 use Rattle.table.specs.Find.{ofClient, firstFrom}
 use Rattle.director.specs.declared.state.Service.{Service}
@@ -128,12 +128,12 @@ module _ (d : Director) (l : List Slot) (m : Segment)
   none = noWeight (d .servers) (d .service .servers)
 
   -- what 12 to 14 say, of the client's connection and the lowest free slot
-  abbrev routeNumber : Place → Place → ℕ
+  abbrev routeNumber : FoundSlot → FoundSlot → ℕ
   routeNumber client free =
       cond (not (isIts l m client) && not new) 12
       (cond ((not (isPresent client) && new) && not (isPresent free)) 13 (cond ((not (isPresent client) && new) && none) 14 0))
 
-  on-present : (k : SlotNo) (free : Place) → decisionNumber (onPresent m k (getD l (k .0) freeSlot)) ≡ routeNumber (Place.At k) free
+  on-present : (k : SlotNo) (free : FoundSlot) → decisionNumber (onPresent m k (getD l (k .0) freeSlot)) ≡ routeNumber (FoundSlot.At k) free
   unfolding decisionNumber
   on-present k free = by-belongs (belongs (m .sender) (getD l (k .0) freeSlot .server)) refl (m .flags .rst)
     where
@@ -148,21 +148,24 @@ module _ (d : Director) (l : List Slot) (m : Segment)
   on-pick k Picked.Nobody = refl
   on-pick k (Picked.Server i walk) = refl
 
-  on-absent : (opening : Bool) (free : Place)
+  on-absent : (opening : Bool) (free : FoundSlot)
       → decisionNumber (cond opening (onRoom d free) (Decision.Refuse Refusal.NoConnection))
       ≡ cond (not opening) 12 (cond (opening && not (isPresent free)) 13 (cond (opening && none) 14 0))
   unfolding decisionNumber
   on-absent false free = refl
-  on-absent true Place.Nothing = refl
-  on-absent true (Place.At k) = on-pick k (pickOf (d .service .scheduler) (d .servers) (d .service .servers) (d .walk)) ∙ rw nobody
+  on-absent true FoundSlot.Nothing = refl
+  on-absent true (FoundSlot.At k) = on-pick k (pickOf (d .service .scheduler) (d .servers) (d .service .servers) (d .walk)) ∙ rw nobody
 
-  by-client : (client : Place) → decisionNumber (onClient d l m client) ≡ routeNumber client (firstFrom isUnused 0 l)
-  by-client (Place.At k) = on-present k (firstFrom isUnused 0 l)
-  by-client Place.Nothing = on-absent new (firstFrom isUnused 0 l)
+  by-client : (client : FoundSlot) → decisionNumber (onClient d l m client) ≡ routeNumber client (firstFrom isUnused 0 l)
+  by-client (FoundSlot.At k) = on-present k (firstFrom isUnused 0 l)
+  by-client FoundSlot.Nothing = on-absent new (firstFrom isUnused 0 l)
 
   route-exactly : (p : List ℕ) → numberGiven (routed d (lent l p) m .answer) ≡ lowestFailing (routeTests d l m)
   unfolding routed decided
-  route-exactly p = carried-number d (lent l p) m (decided d l m) ∙ by-client (firstFrom (ofClient (m .address) (m .port)) 0 l)
+  route-exactly p =
+      let client = firstFrom (ofClient (m .address) (m .port)) 0 l in
+      let listed : routeNumber client (firstFrom isUnused 0 l) ≡ lowestFailing (routeTests d l m) = refl in
+      carried-number d (lent l p) m (decided d l m) ∙ by-client client ∙ listed
 
 -- 3. A packet call
 

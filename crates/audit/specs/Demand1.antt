@@ -14,7 +14,7 @@ use Rattle.servers.specs.declared.rules.Rule.{Rule}
 use Rattle.servers.specs.Rules.{allKeep, isNobody, numberOf}
 use Rattle.scheduler.specs.Weights.{noWeight}
 use Rattle.table.specs.declared.slot.Slot.{Slot}
-use Rattle.table.specs.declared.find.Found.{Found as Place}
+use Rattle.table.specs.declared.find.Found.{Found}
 use Rattle.table.specs.Slots.{slots, words, freeSlot, isUnused}
 use Rattle.table.specs.Find.{ofClient, firstFrom}
 use Rattle.director.specs.declared.state.Service.{Service}
@@ -73,9 +73,9 @@ isElsewhere Way.Inbound g servers p = not (eqb (addressAt p 16) (g .address) && 
 isElsewhere Way.Outbound g servers p = isNobody (numberOf servers (addressAt p 12) (wordAt (payload p) 0) (g .servers))
 
 -- was a slot found?
-abbrev pub isPresent : Place → Bool
-isPresent Place.Nothing = false
-isPresent (Place.At k) = true
+abbrev pub isPresent : Found → Bool
+isPresent Found.Nothing = false
+isPresent (Found.At k) = true
 
 -- 12 to 14, in a state whose clock is stored and whose idle connections are gone; the lowest slot of the client is its connection's (SCOPE 6.7)
 abbrev pub routeTests : Director → List Slot → Segment → List Test

@@ -2,7 +2,7 @@
 -- Assumes nothing.
 use borrow.Author.Needs.{needs}
 use native.Mathlib.Nat.{add-zero}
-use mathlib.Core.Path.{_≡_, refl}
+use mathlib.Core.Path.{_≡_, refl, _∙_}
 use Prim.Native.Nat.{_-_, _≤_}
 use lib.ListN.{length, drop}
 use Rattle.checksum.specs.Ones.{sumFrom, onesSum, wordsOf}
@@ -28,7 +28,7 @@ returns : tie.Need-returns Inv-loop μ-loop
 returns c =
     let at-loop = c .before .before .before .before .before .loop in
     let after = c .before .before .before .before .loop-test .left in
-    rw (c .ones-add2 .ensures, c .before .word .ensures, add-zero) (rw (words-last _ _ (c .before .before .before .if1 .taken) after) at (at-loop .inv .1))
+    rw (c .ones-add2 .ensures, c .before .word .ensures ∙ add-zero _) (rw (words-last _ _ (c .before .before .before .if1 .taken) after) at (at-loop .inv .1))
 
 returns-2 : tie.Need-returns-2 Inv-loop μ-loop
 returns-2 c = rw (words-none _ _ (c .if1 .left)) at (c .before .before .loop .inv .1)
