@@ -50,7 +50,7 @@ use Rattle.director.proofs.Decisions.{Its, Grounded, decided-grounded}
 use Rattle.director.proofs.Carried.{its-slot}
 use Rattle.audit.specs.Calls.{EndsFit}
 use Rattle.audit.specs.Claim.{isOpened}
-use Rattle.audit.specs.Demand2.{Rewritten, Alike, Published, opens, Demand2}
+use Rattle.audit.specs.Demand2.{ResultClaim, Rewritten, Alike, Published, Demand2}
 use Rattle.audit.proofs.Agreement.{ends-lowered}
 use Rattle.audit.proofs.Published.{published}
 use Rattle.audit.proofs.Rewriting.{rewritten}
@@ -133,17 +133,12 @@ same-change : (i j : ServerNo) (x y : Change) → Answer.Passed i x ≡ Answer.P
 same-change i j x y e = cc
 
 module _ (way : Way) (d : Director) (row p : List ℕ) (now : ℕ) (fits : EndsFit (d .service) (d .servers)) (bytes : Bytes p) where
-  -- the claim but for `unread`, of what a call settles
-  pub record Stage (r : Result) : Type 0 where
-    pub rewritten : (i : ServerNo) (change : Change) → r .answer ≡ Answer.Passed i change → Rewritten way d (i .0) p (r .lent .packet)
-    pub picked : (i : ServerNo) → r .answer ≡ Answer.Passed i Change.Opened
-        → Published (d .service .scheduler) (settled d (slots row) now .servers) (d .service .servers) (d .walk) i (r .director .walk)
-    pub unmoved : opens (r .answer) ≡ false → r .director .walk ≡ d .walk
-    pub unwritten : drop (totalLength p) (r .lent .packet) ≡ drop (totalLength p) p
+  abbrev Goal : Result → Type 0
+  Goal = ResultClaim way d row p now
 
   -- refused, with the walk and the packet as they came
-  refused-stage : (why : Refusal) (d′ : Director) (row′ : List ℕ) → d′ .walk ≡ d .walk → Stage (refusal why d′ (lent row′ p))
-  refused-stage why d′ row′ walk = record {
+  refused-right : (why : Refusal) (d′ : Director) (row′ : List ℕ) → d′ .walk ≡ d .walk → Goal (refusal why d′ (lent row′ p))
+  refused-right why d′ row′ walk = record {
     rewritten = λ i change e. absurd (refused-other why i change e);
     picked = λ i e. absurd (refused-other why i Change.Opened e);
     unmoved = λ _. walk;
@@ -161,11 +156,11 @@ module _ (way : Way) (d : Director) (row p : List ℕ) (now : ℕ) (fits : EndsF
     ends = ends-lowered n (isIdle (d .service .protocol) now) (slots row) (d .servers)
 
     -- accepted: a packet of server i
-    passed-stage : (i : ServerNo) (change : Change) (servers : List Server) (walk : Walk) (l : List Slot) → i .0 < n → SameEnds n servers (d .servers)
+    passed-right : (i : ServerNo) (change : Change) (servers : List Server) (walk : Walk) (l : List Slot) → i .0 < n → SameEnds n servers (d .servers)
         → (isOpened change ≡ false → walk ≡ d .walk)
         → (isOpened change ≡ true → Published (d .service .scheduler) (present .servers) n (d .walk) i walk)
-        → Stage (inWords (passed (withServers present servers walk) (lent l p) m i change))
-    passed-stage i change servers walk l exists same moved pick =
+        → Goal (inWords (passed (withServers present servers walk) (lent l p) m i change))
+    passed-right i change servers walk l exists same moved pick =
         let from = read-from d p m way seen in
         let within = laws .redirectable (d .service .protocol) p (from .packet) (from .taken) .within in
         let alone : SameUpToTotal p p = record { total = refl; within = within; within′ = within; bytes = refl } in
@@ -182,51 +177,44 @@ module _ (way : Way) (d : Director) (row p : List ℕ) (now : ℕ) (fits : EndsF
 
     module _ (row′ : List ℕ) (whole : Sound present row′) where
       -- a packet of the connection in slot k
-      its-stage : (k : SlotNo) (rst : Bool) → Its (slots row′) m (k .0) rst → (change : Change) → isOpened change ≡ false → (servers : List Server) (l : List Slot)
-          → SameEnds n servers (present .servers) → Stage (inWords (passed (withServers present servers (d .walk)) (lent l p) m (slotAt row′ (k .0) .server) change))
-      its-stage k rst its change old servers l same =
-          passed-stage (slotAt row′ (k .0) .server) change servers (d .walk) l (its-slot present row′ p m whole (k .0) rst its .2)
+      its-right : (k : SlotNo) (rst : Bool) → Its (slots row′) m (k .0) rst → (change : Change) → isOpened change ≡ false → (servers : List Server) (l : List Slot)
+          → SameEnds n servers (present .servers) → Goal (inWords (passed (withServers present servers (d .walk)) (lent l p) m (slotAt row′ (k .0) .server) change))
+      its-right k rst its change old servers l same =
+          passed-right (slotAt row′ (k .0) .server) change servers (d .walk) l (its-slot present row′ p m whole (k .0) rst its .2)
           (ends-chain n servers (present .servers) (d .servers) same ends) (λ _. refl) (λ e. absurd (true≢false (sym e ∙ old)))
 
-      by-decision : (a : Decision) → Grounded present (slots row′) m a → Stage (inWords (carriedOut present (lent (slots row′) p) m a))
-      by-decision (Decision.Refuse why) grounds = refused-stage why present (words (slots row′)) refl
+      by-decision : (a : Decision) → Grounded present (slots row′) m a → Goal (inWords (carriedOut present (lent (slots row′) p) m a))
+      by-decision (Decision.Refuse why) grounds = refused-right why present (words (slots row′)) refl
       by-decision (Decision.Keep k) its =
-          its-stage k false its Change.Kept refl (present .servers) _ (record { address = λ i h. refl; port = λ i h. refl })
+          its-right k false its Change.Kept refl (present .servers) _ (record { address = λ i h. refl; port = λ i h. refl })
       by-decision (Decision.End k) its =
-          its-stage k true its Change.Ended refl _ _ (ends-set (present .servers) (slotAt row′ (k .0) .server .0) _ n refl refl)
+          its-right k true its Change.Ended refl _ _ (ends-set (present .servers) (slotAt row′ (k .0) .server .0) _ n refl refl)
       by-decision (Decision.Open k i walk) new =
-          passed-stage i Change.Opened _ walk _ (new .server)
+          passed-right i Change.Opened _ walk _ (new .server)
           (ends-chain n _ (present .servers) (d .servers) (ends-set (present .servers) (i .0) _ n refl refl) ends)
           (λ e. absurd (true≢false e))
           (λ _. published (d .service .scheduler) (present .servers) n (d .walk) i walk (whole .settings .some) (whole .range) (new .picked))
 
-    by-clock : (e : Bool) → ltb now (d .clock) ≡ e → Stage (inWords (onClock d (lent (slots row) p) m now e))
+    by-clock : (e : Bool) → ltb now (d .clock) ≡ e → Goal (inWords (onClock d (lent (slots row) p) m now e))
     unfolding routed
-    by-clock true e = refused-stage Refusal.EarlierClock d (words (slots row)) refl
+    by-clock true e = refused-right Refusal.EarlierClock d (words (slots row)) refl
     by-clock false e =
         let left = settledSlots d (slots row) now in
         let whole = sound-parts present (words left) (settled-sound d row now sound (ltb-false now (d .clock) e)) in
         rw slots-words at (by-decision (words left) whole (decided present (slots (words left)) m) (decided-grounded present (words left) whole m))
 
-  by-seen : soundOf d row ≡ true → (x : Seen) → segmentRead way (d .service) (d .servers) p ≡ x → Stage (inWords (onSeen d (lent (slots row) p) now x))
-  by-seen sound (Seen.Refused why) seen = refused-stage why d (words (slots row)) refl
+  by-seen : soundOf d row ≡ true → (x : Seen) → segmentRead way (d .service) (d .servers) p ≡ x → Goal (inWords (onSeen d (lent (slots row) p) now x))
+  by-seen sound (Seen.Refused why) seen = refused-right why d (words (slots row)) refl
   by-seen sound (Seen.Segment m) seen = by-clock sound m seen (ltb now (d .clock)) refl
 
-  settles : Stage (packetOf way d row p now)
+  settles : Goal (packetOf way d row p now)
   unfolding packetOf packetHeld
   settles = by-sound (soundOf d row) refl
     where
-      by-sound : (b : Bool) → soundOf d row ≡ b → Stage (packetOnSound way d (lent row p) now b)
-      by-sound false e = refused-stage Refusal.Unsound d row refl
+      by-sound : (b : Bool) → soundOf d row ≡ b → Goal (packetOnSound way d (lent row p) now b)
+      by-sound false e = refused-right Refusal.Unsound d row refl
       by-sound true e = by-seen e (segmentRead way (d .service) (d .servers) p) refl
 
 pub demand2 : Demand2
 demand2 way d row p now fits bytes =
-    let s = settles way d row p now fits bytes in
-    record {
-      rewritten = s .rewritten;
-      picked = s .picked;
-      unmoved = s .unmoved;
-      unwritten = s .unwritten;
-      unread = λ p′ same. unread d p p′ same row now way;
-    }
+    record { result = settles way d row p now fits bytes; unread = λ p′ _ same. unread d p p′ same row now way }

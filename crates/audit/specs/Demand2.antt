@@ -89,20 +89,25 @@ opens (Answer.Refused why) = false
 
 -- 3. The claim
 
--- of a packet call in the state d and its row, that settles r
-pub record PacketCallClaim (way : Way) (d : Director) (row p : List ℕ) (now : ℕ) (r : Result) : Type 0 where
+-- of the result r of a packet call in the state d and its row
+pub record ResultClaim (way : Way) (d : Director) (row p : List ℕ) (now : ℕ) (r : Result) : Type 0 where
   pub rewritten : (i : ServerNo) (change : Change) → r .answer ≡ Answer.Passed i change → Rewritten way d (i .0) p (r .lent .packet)
   -- an opening goes to the pick, from the counts that are left once the idle connections are removed
   pub picked : (i : ServerNo) → r .answer ≡ Answer.Passed i Change.Opened
       → Published (d .service .scheduler) (settled d (slots row) now .servers) (d .service .servers) (d .walk) i (r .director .walk)
   -- "the walk moves in an opening only" (SCOPE 10.2)
   pub unmoved : opens (r .answer) ≡ false → r .director .walk ≡ d .walk
-  -- "Bytes past the total length are neither read nor written." (SCOPE 7.3), whatever the answer: they stay, and decide nothing
+  -- bytes past the total length stay, whatever the answer (SCOPE 7.3)
   pub unwritten : drop (totalLength p) (r .lent .packet) ≡ drop (totalLength p) p
-  pub unread : (p′ : List ℕ) → SameUpToTotal p p′ → Alike (totalLength p) r (packetOf way d row p′ now)
+
+-- of a packet call that gives these results, by its packet
+pub record PacketCallClaim (way : Way) (d : Director) (row : List ℕ) (now : ℕ) (results : List ℕ → Result) (p : List ℕ) : Type 0 where
+  pub result : ResultClaim way d row p now (results p)
+  -- "Bytes past the total length are neither read nor written." (SCOPE 7.3): they decide nothing
+  pub unread : (p′ : List ℕ) → Bytes p′ → SameUpToTotal p p′ → Alike (totalLength p) (results p) (results p′)
 
 -- Demand 2: of every packet call, whatever state, row, packet and clock it is handed
 abbrev pub Demand2 : Type 0
 Demand2 =
     (way : Way) (d : Director) (row p : List ℕ) (now : ℕ) → EndsFit (d .service) (d .servers) → Bytes p
-    → PacketCallClaim way d row p now (packetOf way d row p now)
+    → PacketCallClaim way d row now (λ x. packetOf way d row x now) p

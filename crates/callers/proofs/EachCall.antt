@@ -1,18 +1,17 @@
 -- Demands 1 and 2 as a program in C or Rust sees them: what it sees of a call is the director's result. Assumes nothing.
 use Prim.Native.Nat.{ℕ, _≤_}
-use mathlib.Core.Bool.{true}
-use mathlib.Core.Path.{_≡_, refl, sym, ap, subst, _∙_}
-use mathlib.Core.Logic.{_≢_}
+use mathlib.Core.Path.{_≡_, refl, sym, subst, _∙_}
 use native.Mathlib.Omega.{arith}
 use Rattle.director.specs.declared.state.Answer.{Answer}
-use Rattle.director.specs.State.{changesNothing}
-use Rattle.audit.specs.Calls.{Call, packet, called}
+use Rattle.audit.specs.Calls.{packet, called}
+use Rattle.packet.specs.Bytes.{totalLength}
+use Rattle.director.specs.State.{Result}
+use Rattle.audit.specs.Demand2.{ResultClaim, Alike}
 use Rattle.audit.specs.Demand1.{RefusalClaim, numberGiven}
-use Rattle.audit.specs.Demand2.{PacketCallClaim}
 use Rattle.audit.proofs.Demand1.{Other, demand1, nothing-changed}
 use Rattle.audit.proofs.Demand2.{demand2}
 use Rattle.nidhaaguf.specs.Reply.{toldBy}
-use Rattle.callers.specs.Calls.{Handed, decodedState, replyTo, seen}
+use Rattle.callers.specs.Calls.{decodedState, replyTo, seen}
 use Rattle.callers.specs.Claim.{Demand1, Demand2}
 use Rattle.callers.proofs.Seen.{seen-called}
 
@@ -38,4 +37,11 @@ demand1-seen h c fits = record {
 pub demand2-seen : Demand2
 demand2-seen h way p now fits bytes =
     let s = decodedState h in
-    subst (PacketCallClaim way (s .director) (s .row) p now) (sym (seen-called h (packet way p now) bytes)) (demand2 way (s .director) (s .row) p now fits bytes)
+    let claim = demand2 way (s .director) (s .row) p now fits bytes in
+    let here = sym (seen-called h (packet way p now) bytes) in
+    record {
+      result = subst (ResultClaim way (s .director) (s .row) p now) here (claim .result);
+      unread = λ p′ fit same.
+          subst (λ (r : Result). Alike (totalLength p) r (seen h (packet way p′ now))) here
+          (subst (Alike (totalLength p) (called s (packet way p now))) (sym (seen-called h (packet way p′ now) fit)) (claim .unread p′ fit same));
+    }

@@ -5,7 +5,6 @@ use mathlib.Core.Bool.{Bool, true, false}
 use mathlib.Core.List.{List, []}
 use mathlib.Core.Path.{_≡_, refl}
 use lib.Dec.{ltb}
-use Rattle.packet.specs.declared.read.Fault.{Fault}
 use Rattle.servers.specs.declared.Server.{Server}
 use Rattle.table.specs.declared.slot.Slot.{Slot}
 use Rattle.table.specs.Slots.{slots}
@@ -28,6 +27,7 @@ use Rattle.director.specs.Decide.{decided}
 use Rattle.director.specs.Carry.{carriedOut}
 use Rattle.director.specs.Packets.{routed, onClock, onSeen, packetHeld, packetOnSound, packetOf}
 use Rattle.audit.specs.Calls.{Call, setUp, setWeight, count, tick, packet, Fits, packetIn, State as DirectorState, called}
+use Rattle.audit.proofs.Numbers.{each-refusal}
 use Rattle.audit.proofs.Leaving.{called-leaves}
 use Rattle.nidhaaguf.specs.Reply.{toldBy}
 use Rattle.nidhaaguf.proofs.Handed.{handed-on}
@@ -40,21 +40,7 @@ abbrev Tells : Call → Answer → Type 0
 Tells c a = let t = toldBy a in answerOf c (t .refusal) (t .number) (t .change) ≡ a
 
 tells-refused : (c : Call) (why : Refusal) → Tells c (Answer.Refused why)
-tells-refused c Refusal.Size = refl
-tells-refused c Refusal.Service = refl
-tells-refused c Refusal.ServerUnset = refl
-tells-refused c Refusal.ServerRepeated = refl
-tells-refused c Refusal.NoServer = refl
-tells-refused c (Refusal.Packet Fault.MalformedHeader) = refl
-tells-refused c (Refusal.Packet Fault.Fragment) = refl
-tells-refused c (Refusal.Packet Fault.OtherProtocol) = refl
-tells-refused c (Refusal.Packet Fault.MalformedTransport) = refl
-tells-refused c Refusal.OtherEndpoint = refl
-tells-refused c Refusal.EarlierClock = refl
-tells-refused c Refusal.NoConnection = refl
-tells-refused c Refusal.TableFull = refl
-tells-refused c Refusal.NoWeight = refl
-tells-refused c Refusal.Unsound = refl
+tells-refused c = each-refusal (λ why. let t = toldBy (Answer.Refused why) in answerOf c (t .refusal) (t .number) (t .change)) Answer.Refused refl
 
 module _ (d : Director) (row : List ℕ) where
   setup-tells : (g : Service) (given : List Server) (v : Verdict) → Tells (setUp g given) (onVerdict d g given row v .answer)

@@ -32,7 +32,7 @@ Demand1 = (h : Handed) (c : Call) → Fits c → Refusals h c
 abbrev pub Demand2 : Type 0
 Demand2 =
     (h : Handed) (way : Way) (p : List ℕ) (now : ℕ) → EndsFit (h .state .service) (h .state .servers) → Bytes p
-    → PacketCallClaim way (decodedState h .director) (h .row) p now (seen h (packet way p now))
+    → PacketCallClaim way (decodedState h .director) (h .row) now (λ x. seen h (packet way x now)) p
 
 -- Demand 3: what holds after every call of a list, of what the program has in its hands and of the book of what it saw; and of whatever call comes next
 pub record Claim (h : Handed) (b : Book) : Type 0 where
