@@ -8,22 +8,26 @@ use native.Mathlib.Omega.{arith}
 use lib.Dec.{eqb}
 use Rattle.lists.proofs.Cases.{truth, by-test}
 use Rattle.lists.proofs.All.{all-at}
-use Rattle.servers.specs.Servers.{raised, lowered}
+use Rattle.servers.specs.Servers.{raised}
+use Rattle.scheduler.specs.declared.walk.Walk.{Walk}
 use Rattle.table.specs.Slots.{slots, words, freeSlot, slotAt}
+use Rattle.table.specs.Changes.{opened, freed}
 use Rattle.table.specs.Sound.{lastPhase}
+use Rattle.table.proofs.Rows.{slots-words}
 use Rattle.table.proofs.Connections.{Connection, IsPhase, connection}
 use Rattle.table.proofs.Soundness.{all-sound}
-use Rattle.table.proofs.Tables.{sound-table, opened-table, freed-table, touched-table}
+use Rattle.table.proofs.Tables.{sound-table, opened-table, touched-table}
 use Rattle.director.specs.declared.state.Director.{Director}
 use Rattle.director.specs.declared.segment.Sender.{Sender}
 use Rattle.director.specs.declared.segment.Segment.{Segment}
 use Rattle.director.specs.declared.decide.Decision.{Decision}
-use Rattle.director.specs.State.{lent}
+use Rattle.director.specs.State.{withServers, withOneLess, lent}
 use Rattle.director.specs.Judge.{soundOf}
 use Rattle.director.specs.Carry.{phaseOnFin, phaseOf, phaseAfter, carriedOut}
 use Rattle.director.proofs.Sound.{Sound, sound-whole, sound-words}
 use Rattle.director.proofs.Changes.{recounted-same, recounted, recounted-sound}
-use Rattle.director.proofs.Decisions.{Its, Grounded}
+use Rattle.director.proofs.Ending.{ended-sound, ended-parts}
+use Rattle.director.proofs.Decisions.{Its, Opening, Grounded}
 
 -- FIN moves a TCP phase to another
 fin-phase : (phase : ℕ) (sender : Sender) → IsPhase 4 phase → IsPhase 4 (phaseOnFin phase sender)
@@ -42,6 +46,14 @@ module _ (protocol : ℕ) where
       (λ (e : eqb protocol 17 ≡ true). absurd (false≢true (sym (udp e))))
       (λ (e : eqb protocol 17 ≡ false). rw e (fin-phase phase sender (rw e at old)))
       (truth (eqb protocol 17))
+
+-- an opening
+opened-sound : (d : Director) (row : List ℕ) (m : Segment) → Sound d row → m .port ≤ 65535 → (k i : ℕ) (walk : Walk) → Opening d (slots row) k i walk
+    → soundOf (withServers d (raised (d .servers) i) walk) (words (opened (slots row) k (m .address) (m .port) i (d .clock))) ≡ true
+opened-sound d row m sound port k i walk new =
+    let n = d .service .servers in
+    recounted-sound d row sound (raised (d .servers) i) walk (d .clock) _ (recounted n (d .servers) i _ (new .server)) (new .range)
+    (opened-table (d .service .protocol) n (d .clock) row (d .servers) (sound .table) k (m .address) (m .port) i (new .lowest .within) (new .lowest .passes) port (new .server))
 
 module _ (d : Director) (row p : List ℕ) (m : Segment) (sound : Sound d row) where
   abbrev protocol : ℕ
@@ -65,11 +77,10 @@ module _ (d : Director) (row p : List ℕ) (m : Segment) (sound : Sound d row) w
       let phase = phase-kept protocol (s .phase) (m .flags .fin) (m .sender) udp (its .used, its-slot (k .0) false its .0) in
       recounted-sound d row sound (d .servers) (d .walk) (d .clock) _ (recounted-same n (d .servers)) (sound .range)
       (touched-table protocol n (d .clock) row (d .servers) (sound .table) (k .0) (phaseAfter m s) (its .lowest .within) (its .used) phase)
-  carried-sound port udp (Decision.End k) its =
-      let s = slotAt row (k .0) in
-      recounted-sound d row sound (lowered (d .servers) (s .server .0)) (d .walk) (d .clock) _
-      (recounted n (d .servers) (s .server .0) _ (its-slot (k .0) true its .2)) (sound .range)
-      (freed-table protocol n (d .clock) row (d .servers) (sound .table) (k .0) (its .lowest .within) (its .used))
-  carried-sound port udp (Decision.Open k i walk) new =
-      recounted-sound d row sound (raised (d .servers) (i .0)) walk (d .clock) _ (recounted n (d .servers) (i .0) _ (new .server)) (new .range)
-      (opened-table protocol n (d .clock) row (d .servers) (sound .table) (k .0) (m .address) (m .port) (i .0) (new .lowest .within) (new .lowest .passes) port (new .server))
+  carried-sound port udp (Decision.End k) its = ended-sound d row sound (k .0) (its .lowest .within) (its .used)
+  carried-sound port udp (Decision.Open k i walk) new = opened-sound d row m sound port (k .0) (i .0) walk (new .opening)
+  carried-sound port udp (Decision.Renew old k i walk) new =
+      let ended = ended-parts d row sound (old .0) (new .its .lowest .within) (new .its .used) in
+      let l = freed (slots row) (old .0) in
+      rw (slots-words l) at
+      (opened-sound (withOneLess d (slotAt row (old .0) .server .0)) (words l) m ended port (k .0) (i .0) walk (rw (slots-words l) (new .opening)))

@@ -3,34 +3,39 @@ use Prim.Native.Nat.{ℕ, _<_}
 use mathlib.Core.Bool.{Bool, true, false, not, _&&_, true≢false, false≢true}
 use mathlib.Core.List.{List}
 use mathlib.Core.Path.{_≡_, refl}
-use borrow.Author.Tests.{not-true}
+use native.Mathlib.Omega.{arith}
+use borrow.Author.Tests.{not-true, eqb-true}
 use lib.Dec.{eqb}
-use lib.ListN.{getD}
+use lib.ListN.{length, getD}
 use Rattle.lists.proofs.Cases.{both, by-test}
 use Rattle.packet.specs.declared.read.Flags.{Flags}
 use Rattle.servers.specs.declared.ServerNo.{ServerNo}
 use Rattle.scheduler.specs.declared.walk.Walk.{Walk}
 use Rattle.scheduler.specs.declared.walk.Picked.{Picked}
-use Rattle.scheduler.specs.ByNumber.{isScheduler, inRange, pickOf}
+use Rattle.scheduler.specs.ByNumber.{isScheduler, inRange}
 use Rattle.scheduler.specs.Laws.{PickFound}
 use Rattle.scheduler.proofs.Picks.{pick-found}
 use Rattle.table.specs.declared.slot.Slot.{Slot}
 use Rattle.table.specs.declared.slot.SlotNo.{SlotNo}
 use Rattle.table.specs.declared.find.Found.{Found}
-use Rattle.table.specs.Slots.{slots, freeSlot, slotAt, isUnused, isUsed}
+use Rattle.table.specs.Slots.{slots, words, freeSlot, slotAt, isUnused, isUsed}
 use Rattle.table.specs.Find.{ofClient, firstFrom, IsLowest}
+use Rattle.table.specs.Changes.{freed}
+use Rattle.table.proofs.Rows.{slots-words}
 use Rattle.table.proofs.Finding.{found-lowest}
+use Rattle.table.proofs.Freeing.{freed-found}
 use Rattle.director.specs.declared.state.Service.{Service}
 use Rattle.director.specs.declared.state.Director.{Director}
 use Rattle.director.specs.declared.state.Refusal.{Refusal}
 use Rattle.director.specs.declared.segment.Sender.{Sender}
 use Rattle.director.specs.declared.segment.Segment.{Segment}
 use Rattle.director.specs.declared.decide.Decision.{Decision}
-use Rattle.director.specs.State.{refusalNumber, keepsClock}
+use Rattle.director.specs.State.{refusalNumber, keepsClock, withOneLess}
 use Rattle.director.specs.Judge.{isProtocol, serviceRight}
-use Rattle.director.specs.Decide.{opensBy, opens, belongs, onRst, onPresent, onPick, onRoom, onAbsent, onClient, decided}
-use Rattle.director.specs.Laws.{isIts, FullFirst}
+use Rattle.director.specs.Decide.{opensBy, opens, belongs, nextPick, onPick, onRoom, onAbsent, renews, onRenewal, onRst, onPresent, onClient, decided}
+use Rattle.director.specs.Laws.{isIts, FullFirst, NeverFull}
 use Rattle.director.proofs.Sound.{Sound}
+use Rattle.director.proofs.Ending.{ended-parts}
 
 -- 1. What is known of a decision
 
@@ -50,20 +55,31 @@ pub record Its (l : List Slot) (m : Segment) (k : ℕ) (rst : Bool) : Type 0 whe
   pub belongs : belongs (m .sender) (getD l k freeSlot .server) ≡ true
   pub flag : m .flags .rst ≡ rst
 
--- opened: the client has no connection, the packet opens one, slot k is the lowest free one, the server is the pick and exists, the walk is in range
+-- an opening: slot k is the lowest free one, the server is the pick and exists, the walk is in range
+pub record Opening (d : Director) (l : List Slot) (k i : ℕ) (walk : Walk) : Type 0 where
+  pub lowest : IsLowest isUnused l k
+  pub picked : nextPick d ≡ Picked.Server (record { 0 = i }) walk
+  pub server : i < d .service .servers
+  pub range : inRange (d .service .scheduler) (d .servers) (d .service .servers) walk ≡ true
+
+-- opened: the client has no connection, and the packet opens one
 pub record CanOpen (d : Director) (l : List Slot) (m : Segment) (k i : ℕ) (walk : Walk) : Type 0 where
   pub absent : firstFrom (ofClient (m .address) (m .port)) 0 l ≡ Found.Nothing
   pub opens : opens (d .service .protocol) m ≡ true
-  pub lowest : IsLowest isUnused l k
-  pub picked : pickOf (d .service .scheduler) (d .servers) (d .service .servers) (d .walk) ≡ Picked.Server (record { 0 = i }) walk
-  pub server : i < d .service .servers
-  pub range : inRange (d .service .scheduler) (d .servers) (d .service .servers) walk ≡ true
+  pub opening : Opening d l k i walk
+
+-- renewed: the packet is of the finished connection in slot old and opens; the opening is one in the state that the ending leaves
+pub record CanRenew (d : Director) (l : List Slot) (m : Segment) (old k i : ℕ) (walk : Walk) : Type 0 where
+  pub its : Its l m old false
+  pub renews : renews m (getD l old freeSlot) ≡ true
+  pub opening : Opening (withOneLess d (getD l old freeSlot .server .0)) (freed l old) k i walk
 
 abbrev pub Grounded : Director → List Slot → Segment → Decision → Type 0
 Grounded d l m (Decision.Refuse why) = Declined d l m why
 Grounded d l m (Decision.Keep k) = Its l m (k .0) false
 Grounded d l m (Decision.End k) = Its l m (k .0) true
 Grounded d l m (Decision.Open k i walk) = CanOpen d l m (k .0) (i .0) walk
+Grounded d l m (Decision.Renew old k i walk) = CanRenew d l m (old .0) (k .0) (i .0) walk
 
 -- 2. Whose packets open
 
@@ -77,11 +93,43 @@ pub others-open-none : (protocol : ℕ) (f : Flags) (sender : Sender) (i : Serve
 others-open-none protocol f Sender.Client i e = absurd (true≢false e)
 others-open-none protocol f (Sender.Server j) i e = refl
 
--- 3. Room is asked for before a weight
+-- a packet that renews is a client's SYN: it opens by any protocol, and its RST is clear
+syn-opens : (protocol : ℕ) (f : Flags) (sender : Sender) → opensBy 6 f sender ≡ true → (opensBy protocol f sender ≡ true) × (f .rst ≡ false)
+syn-opens protocol f Sender.Client e =
+    let (ack, front) = both (not (f .ack)) (not (f .rst) && (not (f .fin) && f .syn)) e in
+    let (rst, rest) = both (not (f .rst)) (not (f .fin) && f .syn) front in
+    (by-test (λ b. b ≡ true) (eqb protocol 6) _ _ (λ _. e) (λ _. refl), not-true _ rst)
+syn-opens protocol f (Sender.Server i) e = absurd (false≢true e)
+
+pub renewing : (protocol : ℕ) (m : Segment) (s : Slot) → renews m s ≡ true → (s .phase ≡ 4) × (opens protocol m ≡ true) × (m .flags .rst ≡ false)
+renewing protocol m s e =
+    let (phase, new) = both (eqb (s .phase) 4) (opens 6 m) e in
+    let (opens, rst) = syn-opens protocol (m .flags) (m .sender) new in
+    (eqb-true _ _ phase, opens, rst)
+
+-- 3. Room is asked for before a weight, and is there where a connection is renewed
 
 pub full-first : FullFirst
 unfolding decided
 full-first d l m absent new full = rw (absent, new, full) refl
+
+module _ (d : Director) (l : List Slot) (k : SlotNo) (within : k .0 < length l) where
+  picked-room : (j : SlotNo) (q : Picked) → onPick (Decision.Renew k j) q ≡ Decision.Refuse Refusal.TableFull → ⊥
+  picked-room j Picked.Nobody e = let z : _≡_ {A = ℕ} 0 1 = cc in omega arith
+  picked-room j (Picked.Server i walk) e = let z : _≡_ {A = ℕ} 0 1 = cc in omega arith
+
+  renewal-room : (f : Found) → firstFrom isUnused 0 (freed l (k .0)) ≡ f
+      → onRoom (withOneLess d (getD l (k .0) freeSlot .server .0)) (Decision.Renew k) f ≡ Decision.Refuse Refusal.TableFull → ⊥
+  renewal-room Found.Nothing none e = freed-found l (k .0) within none
+  renewal-room (Found.At j) found e = picked-room j (nextPick (withOneLess d (getD l (k .0) freeSlot .server .0))) e
+
+pub never-full : NeverFull
+unfolding decided
+never-full d l m k found new full =
+    let s = getD l (k .0) freeSlot in
+    let here = opens-here 6 (m .flags) (m .sender) (s .server) (both (eqb (s .phase) 4) (opens 6 m) new .1) in
+    let low = found-lowest (ofClient (m .address) (m .port)) l (k .0) found in
+    renewal-room d l k (low .within) (firstFrom isUnused 0 (freed l (k .0))) refl (rw (found, here, new) at full)
 
 -- 4. Every decision has its grounds
 
@@ -89,6 +137,24 @@ pub scheduler-known : (g : Service) → serviceRight g ≡ true → isScheduler 
 scheduler-known g e =
     let front = not (eqb (g .address) 0) && not (eqb (g .port) 0) && isProtocol (g .protocol) in
     both front (isScheduler (g .scheduler)) e .1
+
+-- an opening in a sound state, whatever is shown of it and made of it: a server that exists is picked, and the walk is left in range
+module _ (d : Director) (row : List ℕ) (sound : Sound d row) (Goal : Decision → Type 0) (make : SlotNo → ServerNo → Walk → Decision)
+    (weightless : Goal (Decision.Refuse Refusal.NoWeight)) (full : firstFrom isUnused 0 (slots row) ≡ Found.Nothing → Goal (Decision.Refuse Refusal.TableFull))
+    (new : (k : SlotNo) (i : ServerNo) (walk : Walk) → Opening d (slots row) (k .0) (i .0) walk → Goal (make k i walk)) where
+  by-pick : (k : SlotNo) → IsLowest isUnused (slots row) (k .0) → (q : Picked) → nextPick d ≡ q
+      → PickFound (d .service .scheduler) (d .servers) (d .service .servers) q → Goal (onPick (make k) q)
+  by-pick k lowest Picked.Nobody e found = weightless
+  by-pick k lowest (Picked.Server i walk) e found = new k i walk (record { lowest = lowest; picked = e; server = found .0; range = found .2 })
+
+  by-room : (f : Found) → firstFrom isUnused 0 (slots row) ≡ f → Goal (onRoom d make f)
+  by-room Found.Nothing e = full e
+  by-room (Found.At k) e =
+      by-pick k (found-lowest isUnused (slots row) (k .0) e) (nextPick d) refl
+      (pick-found (d .service .scheduler) (d .servers) (d .service .servers) (d .walk) (scheduler-known (d .service) (sound .settings .right)) (sound .range))
+
+  opening : Goal (onRoom d make (firstFrom isUnused 0 (slots row)))
+  opening = by-room (firstFrom isUnused 0 (slots row)) refl
 
 module _ (d : Director) (row : List ℕ) (sound : Sound d row) (m : Segment) where
   abbrev l : List Slot
@@ -108,43 +174,42 @@ module _ (d : Director) (row : List ℕ) (sound : Sound d row) (m : Segment) whe
     low : IsLowest (ofClient (m .address) (m .port)) l (k .0)
     low = found-lowest (ofClient (m .address) (m .port)) l (k .0) found
 
-    its : (rst : Bool) → belongs (m .sender) (s .server) ≡ true → m .flags .rst ≡ rst → Its l m (k .0) rst
-    its rst here flag =
-        let used = both (eqb (s .address) (m .address) && eqb (s .port) (m .port)) (isUsed s) (low .passes) .1 in
-        record { lowest = low; used = not-true _ used; belongs = here; flag = flag }
+    used : isUnused s ≡ false
+    used = not-true _ (both (eqb (s .address) (m .address) && eqb (s .port) (m .port)) (isUsed s) (low .passes) .1)
 
-    by-rst : belongs (m .sender) (s .server) ≡ true → (rst : Bool) → m .flags .rst ≡ rst → Goal (onRst k rst)
-    by-rst here true flag = its true here flag
-    by-rst here false flag = its false here flag
+    module _ (here : belongs (m .sender) (s .server) ≡ true) where
+      its : (rst : Bool) → m .flags .rst ≡ rst → Its l m (k .0) rst
+      its rst flag = record { lowest = low; used = used; belongs = here; flag = flag }
 
-    by-present : Goal (onPresent m k s)
+      -- 13 can't arise: the old slot is free then
+      by-renewal : renews m s ≡ true → Goal (onRenewal d l k)
+      by-renewal new =
+          rw (slots-words (freed l (k .0))) at
+          (opening (withOneLess d (s .server .0)) (words (freed l (k .0))) (ended-parts d row sound (k .0) (low .within) used) Goal (Decision.Renew k)
+          (record { keeps = refl; stray = rw (found, here) })
+          (λ none. absurd (freed-found l (k .0) (low .within) (rw (slots-words (freed l (k .0))) at none)))
+          (λ j i walk o. record { its = its false (renewing protocol m s new .2); renews = new; opening = rw (slots-words (freed l (k .0))) at o }))
+
+      by-rst : (rst : Bool) → m .flags .rst ≡ rst → Goal (onRst k rst)
+      by-rst true flag = its true flag
+      by-rst false flag = its false flag
+
+    by-present : Goal (onPresent d l m k s)
     by-present =
-        by-test Goal (belongs (m .sender) (s .server)) _ _ (λ here. by-rst here (m .flags .rst) refl)
+        by-test Goal (belongs (m .sender) (s .server)) _ _
+        (λ here. by-test Goal (renews m s) _ _ (by-renewal here) (λ old. by-rst here (m .flags .rst) refl))
         (λ away. record { keeps = refl; stray = rw (found, away, others-open-none protocol (m .flags) (m .sender) (s .server) away) })
 
   -- the client has none
   module _ (absent : firstFrom (ofClient (m .address) (m .port)) 0 l ≡ Found.Nothing) where
-    module _ (new : opens protocol m ≡ true) where
-      full : (why : Refusal) → keepsClock why ≡ true → eqb (refusalNumber why) 12 ≡ false → Declined d l m why
-      full why keeps other = record { keeps = keeps; stray = rw (absent, new) other }
-
-      -- the pick is an existing server, and leaves the walk in range
-      by-pick : (k : SlotNo) → IsLowest isUnused l (k .0)
-          → (q : Picked) → pickOf (d .service .scheduler) (d .servers) (d .service .servers) (d .walk) ≡ q
-          → PickFound (d .service .scheduler) (d .servers) (d .service .servers) q → Goal (onPick k q)
-      by-pick k lowest Picked.Nobody e found = full Refusal.NoWeight refl refl
-      by-pick k lowest (Picked.Server i walk) e found =
-          record { absent = absent; opens = new; lowest = lowest; picked = e; server = found .0; range = found .2 }
-
-      by-room : (f : Found) → firstFrom isUnused 0 l ≡ f → Goal (onRoom d f)
-      by-room Found.Nothing e = full Refusal.TableFull refl refl
-      by-room (Found.At k) e =
-          by-pick k (found-lowest isUnused l (k .0) e) (pickOf (d .service .scheduler) (d .servers) (d .service .servers) (d .walk)) refl
-          (pick-found (d .service .scheduler) (d .servers) (d .service .servers) (d .walk) (scheduler-known (d .service) (sound .settings .right)) (sound .range))
+    full : opens protocol m ≡ true → (why : Refusal) → keepsClock why ≡ true → eqb (refusalNumber why) 12 ≡ false → Declined d l m why
+    full new why keeps other = record { keeps = keeps; stray = rw (absent, new) other }
 
     by-absent : Goal (onAbsent d l m)
     by-absent =
-        by-test Goal (opens protocol m) _ _ (λ new. by-room new (firstFrom isUnused 0 l) refl)
+        by-test Goal (opens protocol m) _ _
+        (λ new. opening d row sound Goal Decision.Open (full new Refusal.NoWeight refl refl) (λ _. full new Refusal.TableFull refl refl)
+        (λ k i walk o. record { absent = absent; opens = new; opening = o }))
         (λ old. record { keeps = refl; stray = rw (absent, old) })
 
   by-client : (f : Found) → firstFrom (ofClient (m .address) (m .port)) 0 l ≡ f → Goal (onClient d l m f)

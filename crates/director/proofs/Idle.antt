@@ -7,6 +7,7 @@ use lib.ListN.{getD}
 use Rattle.table.specs.declared.slot.Slot.{Slot}
 use Rattle.table.specs.Slots.{freeSlot}
 use Rattle.table.specs.Expire.{NoneIdle}
+use Rattle.table.specs.Changes.{freed}
 use Rattle.table.proofs.Idle.{none-removed, none-counted, removed-none-idle, opened-none-idle, touched-none-idle, freed-none-idle}
 use Rattle.director.specs.declared.state.Director.{Director}
 use Rattle.director.specs.declared.segment.Segment.{Segment}
@@ -34,4 +35,7 @@ carried-none-idle d x m none (Decision.Keep k) its =
     touched-none-idle (d .service .protocol) (d .clock) (x .table) (k .0) (its .lowest .within) none (phaseAfter m (getD (x .table) (k .0) freeSlot))
 carried-none-idle d x m none (Decision.End k) its = freed-none-idle (d .service .protocol) (d .clock) (x .table) (k .0) (its .lowest .within) none
 carried-none-idle d x m none (Decision.Open k i walk) new =
-    opened-none-idle (d .service .protocol) (d .clock) (x .table) (k .0) (new .lowest .within) none (m .address) (m .port) (i .0)
+    opened-none-idle (d .service .protocol) (d .clock) (x .table) (k .0) (new .opening .lowest .within) none (m .address) (m .port) (i .0)
+carried-none-idle d x m none (Decision.Renew old k i walk) new =
+    opened-none-idle (d .service .protocol) (d .clock) (freed (x .table) (old .0)) (k .0) (new .opening .lowest .within)
+    (freed-none-idle (d .service .protocol) (d .clock) (x .table) (old .0) (new .its .lowest .within) none) (m .address) (m .port) (i .0)

@@ -43,6 +43,7 @@ clock-kept d x m (Decision.Refuse why) grounds = rw (grounds .keeps)
 clock-kept d x m (Decision.Keep k) grounds = refl
 clock-kept d x m (Decision.End k) grounds = refl
 clock-kept d x m (Decision.Open k i walk) grounds = refl
+clock-kept d x m (Decision.Renew old k i walk) grounds = refl
 
 -- a packet that got past 11
 module _ (d : Director) (row p : List ℕ) (m : Segment) (bytes : Bytes p) (from : ReadFrom (d .service .protocol) p m) (sound : soundOf d row ≡ true) where

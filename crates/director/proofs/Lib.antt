@@ -5,6 +5,7 @@ pub mod Leaving
 pub mod Keeping
 pub mod Segments
 pub mod Refusals
+pub mod Ending
 pub mod Decisions
 pub mod Feasible
 pub mod Carried

@@ -6,12 +6,12 @@ use lib.Dec.{eqb}
 use lib.ListN.{length, getD}
 use Rattle.servers.specs.declared.Server.{Server}
 use Rattle.servers.specs.declared.ServerNo.{ServerNo}
-use Rattle.servers.specs.Servers.{serverAt, countAt, raised, lowered}
+use Rattle.servers.specs.Servers.{serverAt, countAt, raised}
 use Rattle.scheduler.specs.declared.walk.Walk.{Walk}
 use Rattle.packet.specs.declared.redirect.Side.{Side}
 use Rattle.packet.specs.Redirect.{redirected, Redirectable}
 use Rattle.table.specs.declared.slot.Slot.{Slot}
-use Rattle.table.specs.Slots.{wordsPerSlot, freeSlot, slotAt, IsRow}
+use Rattle.table.specs.Slots.{wordsPerSlot, slots, words, freeSlot, slotAt, IsRow}
 use Rattle.table.specs.Changes.{opened, touched, freed}
 use Rattle.director.specs.declared.state.Service.{Service}
 use Rattle.director.specs.declared.state.Director.{Director}
@@ -21,7 +21,7 @@ use Rattle.director.specs.declared.state.Outcome.{Outcome}
 use Rattle.director.specs.declared.segment.Sender.{Sender}
 use Rattle.director.specs.declared.segment.Segment.{Segment}
 use Rattle.director.specs.declared.decide.Decision.{Decision}
-use Rattle.director.specs.State.{Lent, withTable, withPacket, Held, refusal}
+use Rattle.director.specs.State.{withServers, withOneLess, Lent, withTable, withPacket, Held, refusal}
 
 -- "An inbound FIN moves 1 to 2 and 3 to 4; outbound moves 1 to 3 and 2 to 4." (SCOPE 8.7)
 abbrev pub phaseOnFin : ℕ → Sender → ℕ
@@ -46,10 +46,6 @@ sentOn g v p (Sender.Server i) = redirected (g .protocol) Side.Source (g .addres
 abbrev pub forwarded : Director → ℕ → List ℕ → Sender → List ℕ
 forwarded d k p sender = sentOn (d .service) (serverAt (d .servers) k) p sender
 
--- the state with other servers and another walk
-abbrev pub withServers : Director → List Server → Walk → Director
-withServers d servers walk = record { service = d .service; servers = servers; walk = walk; clock = d .clock }
-
 -- an accepted packet of server no: "return the server number and one of: opened .., ended .., kept" (SCOPE 7.9)
 abbrev pub passedBy : Director → ServerNo → Change → Outcome
 passedBy d i change = record { answer = Answer.Passed i change; director = d }
@@ -68,18 +64,23 @@ keptHeld d x m k =
 abbrev pub endedHeld : Director → Lent (List Slot) → Segment → ℕ → Held
 endedHeld d x m k =
     let s = getD (x .table) k freeSlot in
-    passed (withServers d (lowered (d .servers) (s .server .0)) (d .walk)) (withTable x (freed (x .table) k)) m (s .server) Change.Ended
+    passed (withOneLess d (s .server .0)) (withTable x (freed (x .table) k)) m (s .server) Change.Ended
 
 -- opened: "phase 1, last-seen the clock, server's count plus 1" (SCOPE 8.4)
 abbrev pub openedHeld : Director → Lent (List Slot) → Segment → ℕ → ServerNo → Walk → Held
 openedHeld d x m k i walk =
     passed (withServers d (raised (d .servers) (i .0)) walk) (withTable x (opened (x .table) k (m .address) (m .port) (i .0) (d .clock))) m i Change.Opened
 
+-- renewed: an opening in the state that the ending of the connection in slot old leaves
+abbrev pub renewedHeld : Director → Lent (List Slot) → Segment → (old k : ℕ) → ServerNo → Walk → Held
+renewedHeld d x m old k i walk = openedHeld (withOneLess d (getD (x .table) old freeSlot .server .0)) (withTable x (freed (x .table) old)) m k i walk
+
 abbrev pub carriedOut : Director → Lent (List Slot) → Segment → Decision → Held
 carriedOut d x m (Decision.Refuse why) = refusal why d x
 carriedOut d x m (Decision.Keep k) = keptHeld d x m (k .0)
 carriedOut d x m (Decision.End k) = endedHeld d x m (k .0)
 carriedOut d x m (Decision.Open k i walk) = openedHeld d x m (k .0) i walk
+carriedOut d x m (Decision.Renew old k i walk) = renewedHeld d x m (old .0) (k .0) i walk
 
 -- what a function that writes slot k and the packet asks for: a whole row that has the slot, and a packet that can be redirected
 pub record Ready (d : Director) (row p : List ℕ) (k : ℕ) : Type 0 where
@@ -87,9 +88,19 @@ pub record Ready (d : Director) (row p : List ℕ) (k : ℕ) : Type 0 where
   pub within : k < length row / wordsPerSlot
   pub packet : Redirectable (d .service .protocol) p
 
+-- the same where the connection in slot k is ended, and where one is opened there: the counts can fall and rise by one
+abbrev pub EndReady : Director → List ℕ → List ℕ → (k : ℕ) → Type 0
+EndReady d row p k = Ready d row p k × (1 ≤ countAt (d .servers) (slotAt row k .server .0))
+
+abbrev pub OpenReady : Director → List ℕ → List ℕ → (k i : ℕ) → Type 0
+OpenReady d row p k i = Ready d row p k × (countAt (d .servers) i < 4294967295)
+
 -- what is asked for where a decision is carried out
 abbrev pub Feasible : Director → List ℕ → List ℕ → Decision → Type 0
 Feasible d row p (Decision.Refuse why) = IsRow row
 Feasible d row p (Decision.Keep k) = Ready d row p (k .0)
-Feasible d row p (Decision.End k) = Ready d row p (k .0) × (1 ≤ countAt (d .servers) (slotAt row (k .0) .server .0))
-Feasible d row p (Decision.Open k i walk) = Ready d row p (k .0) × (countAt (d .servers) (i .0) < 4294967295)
+Feasible d row p (Decision.End k) = EndReady d row p (k .0)
+Feasible d row p (Decision.Open k i walk) = OpenReady d row p (k .0) (i .0)
+Feasible d row p (Decision.Renew old k i walk) =
+    EndReady d row p (old .0)
+    × OpenReady (withOneLess d (slotAt row (old .0) .server .0)) (words (freed (slots row) (old .0))) p (k .0) (i .0)

@@ -7,17 +7,20 @@ use lib.ListN.{getD}
 use Rattle.packet.specs.declared.read.Flags.{Flags}
 use Rattle.servers.specs.declared.ServerNo.{ServerNo}
 use Rattle.scheduler.specs.declared.walk.Picked.{Picked}
+use Rattle.scheduler.specs.declared.walk.Walk.{Walk}
 use Rattle.scheduler.specs.ByNumber.{pickOf}
 use Rattle.table.specs.declared.slot.Slot.{Slot}
 use Rattle.table.specs.declared.slot.SlotNo.{SlotNo}
 use Rattle.table.specs.declared.find.Found.{Found}
 use Rattle.table.specs.Slots.{freeSlot, isUnused}
 use Rattle.table.specs.Find.{ofClient, firstFrom}
+use Rattle.table.specs.Changes.{freed}
 use Rattle.director.specs.declared.state.Director.{Director}
 use Rattle.director.specs.declared.state.Refusal.{Refusal}
 use Rattle.director.specs.declared.segment.Sender.{Sender}
 use Rattle.director.specs.declared.segment.Segment.{Segment}
 use Rattle.director.specs.declared.decide.Decision.{Decision}
+use Rattle.director.specs.State.{withOneLess}
 
 -- "SYN set and ACK, RST, FIN clear" (SCOPE 8.3)
 abbrev pub isSyn : Flags → Bool
@@ -36,35 +39,45 @@ abbrev pub belongs : Sender → ServerNo → Bool
 belongs Sender.Client i = true
 belongs (Sender.Server source) i = eqb (source .0) (i .0)
 
+-- the server that is next, by the scheduler
+abbrev pub nextPick : Director → Picked
+nextPick d = pickOf (d .service .scheduler) (d .servers) (d .service .servers) (d .walk)
+
+-- 14 where every weight is 0, before the walk moves; else what is made of the pick
+abbrev pub onPick : (ServerNo → Walk → Decision) → Picked → Decision
+onPick make Picked.Nobody = Decision.Refuse Refusal.NoWeight
+onPick make (Picked.Server i walk) = make i walk
+
+-- an opening: 13 where no slot is free; "The lowest free slot is taken" (SCOPE 8.4)
+abbrev pub onRoom : Director → (SlotNo → ServerNo → Walk → Decision) → Found → Decision
+onRoom d make Found.Nothing = Decision.Refuse Refusal.TableFull
+onRoom d make (Found.At k) = onPick (make k) (nextPick d)
+
+-- a packet whose client has no connection: 12 where it opens none
+abbrev pub onAbsent : Director → List Slot → Segment → Decision
+onAbsent d l m = cond (opens (d .service .protocol) m) (onRoom d Decision.Open (firstFrom isUnused 0 l)) (Decision.Refuse Refusal.NoConnection)
+
+-- "An inbound packet with SYN set and ACK, RST, FIN clear that meets a connection in phase 4" (SCOPE 8.11); 6 is TCP, as UDP is never in phase 4
+abbrev pub renews : Segment → Slot → Bool
+renews m s = eqb (s .phase) 4 && opens 6 m
+
+-- it "ends it and opens a new one in the same call" (SCOPE 8.11): an opening in the state that the ending of the connection in slot k leaves
+abbrev pub onRenewal : Director → List Slot → SlotNo → Decision
+onRenewal d l k = onRoom (withOneLess d (getD l (k .0) freeSlot .server .0)) (Decision.Renew k) (firstFrom isUnused 0 (freed l (k .0)))
+
 -- a packet of the connection in slot k: "RST is looked at first" (SCOPE 8.8)
 abbrev pub onRst : SlotNo → Bool → Decision
 onRst k true = Decision.End k
 onRst k false = Decision.Keep k
 
--- a packet whose client has a connection in slot k: does it belong to it?
-abbrev pub onPresent : Segment → SlotNo → Slot → Decision
-onPresent m k s = cond (belongs (m .sender) (s .server)) (onRst k (m .flags .rst)) (Decision.Refuse Refusal.NoConnection)
-
--- 14 where every weight is 0, before the walk moves; else the pick
-abbrev pub onPick : SlotNo → Picked → Decision
-onPick k Picked.Nobody = Decision.Refuse Refusal.NoWeight
-onPick k (Picked.Server i walk) = Decision.Open k i walk
-
-abbrev pub onFree : Director → SlotNo → Decision
-onFree d k = onPick k (pickOf (d .service .scheduler) (d .servers) (d .service .servers) (d .walk))
-
--- 13 where no slot is free; "The lowest free slot is taken" (SCOPE 8.4)
-abbrev pub onRoom : Director → Found → Decision
-onRoom d Found.Nothing = Decision.Refuse Refusal.TableFull
-onRoom d (Found.At k) = onFree d k
-
--- a packet whose client has no connection: 12 where it opens none
-abbrev pub onAbsent : Director → List Slot → Segment → Decision
-onAbsent d l m = cond (opens (d .service .protocol) m) (onRoom d (firstFrom isUnused 0 l)) (Decision.Refuse Refusal.NoConnection)
+-- a packet whose client has a connection, s in slot k: does it belong to it, and if so, does it renew it?
+abbrev pub onPresent : Director → List Slot → Segment → SlotNo → Slot → Decision
+onPresent d l m k s =
+    cond (belongs (m .sender) (s .server)) (cond (renews m s) (onRenewal d l k) (onRst k (m .flags .rst))) (Decision.Refuse Refusal.NoConnection)
 
 -- has the packet's client a connection?
 abbrev pub onClient : Director → List Slot → Segment → Found → Decision
-onClient d l m (Found.At k) = onPresent m k (getD l (k .0) freeSlot)
+onClient d l m (Found.At k) = onPresent d l m k (getD l (k .0) freeSlot)
 onClient d l m Found.Nothing = onAbsent d l m
 
 -- "A connection is known by client address and port" (SCOPE 8.1): 12, 13 and 14 in their order, or what becomes of it

@@ -1,4 +1,4 @@
--- What opens, the phases, the refusals' numbers and, at three places, their order, with SCOPE's values written out: where one of these is wrong
+-- What opens and what renews, the phases, the refusals' numbers and, at three places, their order, with SCOPE's values written out: where one of these is wrong
 -- in code and definition alike, a statement here fails. Assumes nothing: these are statements; proofs/Laws.antt proves them (`laws`).
 use Prim.Native.Nat.{ℕ, _-_}
 use mathlib.Core.Bool.{Bool, true, false}
@@ -11,6 +11,7 @@ use Rattle.packet.specs.declared.read.Fault.{Fault}
 use Rattle.packet.specs.declared.read.Flags.{Flags}
 use Rattle.servers.specs.declared.ServerNo.{ServerNo}
 use Rattle.table.specs.declared.slot.Slot.{Slot}
+use Rattle.table.specs.declared.slot.SlotNo.{SlotNo}
 use Rattle.table.specs.declared.find.Found.{Found}
 use Rattle.table.specs.Slots.{freeSlot, isUnused}
 use Rattle.table.specs.Find.{ofClient, firstFrom}
@@ -26,7 +27,7 @@ use Rattle.director.specs.State.{refusalNumber, keepsClock, Lent, refusa
 use Rattle.director.specs.Judge.{soundOf}
 use Rattle.director.specs.Control.{numberJudged}
 use Rattle.director.specs.Segment.{segmentRead}
-use Rattle.director.specs.Decide.{opens, belongs, decided}
+use Rattle.director.specs.Decide.{opens, belongs, renews, decided}
 use Rattle.director.specs.Carry.{phaseOf}
 use Rattle.director.specs.Packets.{packetHeld}
 
@@ -81,12 +82,21 @@ FullFirst =
     (d : Director) (l : List Slot) (m : Segment) → firstFrom (ofClient (m .address) (m .port)) 0 l ≡ Found.Nothing
     → opens (d .service .protocol) m ≡ true → firstFrom isUnused 0 l ≡ Found.Nothing → decided d l m ≡ Decision.Refuse Refusal.TableFull
 
+-- "13 can't arise here." (SCOPE 8.14): a packet that renews its client's connection, in slot k
+abbrev pub NeverFull : Type 0
+NeverFull =
+    (d : Director) (l : List Slot) (m : Segment) (k : SlotNo) → firstFrom (ofClient (m .address) (m .port)) 0 l ≡ Found.At k
+    → renews m (getD l (k .0) freeSlot) ≡ true → decided d l m ≡ Decision.Refuse Refusal.TableFull → ⊥
+
 pub record Laws : Type 0 where
   -- a client's packet of TCP (6) opens with these flags and no others; "any UDP inbound" (SCOPE 8.3), which is 17
   pub opens-tcp : (m : Segment) → m .sender ≡ Sender.Client → (opens 6 m ≡ true) ↔ (m .flags ≡ synAlone)
   pub opens-udp : (m : Segment) → m .sender ≡ Sender.Client → opens 17 m ≡ true
   -- "Outbound packets open nothing." (SCOPE 8.5)
   pub opens-none : (protocol : ℕ) (m : Segment) (i : ServerNo) → m .sender ≡ Sender.Server i → opens protocol m ≡ false
+  -- with these flags and no others it renews, a connection in phase 4 (SCOPE 8.11)
+  pub renews-finished : (m : Segment) (s : Slot) → m .sender ≡ Sender.Client → (renews m s ≡ true) ↔ ((s .phase ≡ 4) × (m .flags ≡ synAlone))
+  pub renews-none : (m : Segment) (s : Slot) (i : ServerNo) → m .sender ≡ Sender.Server i → renews m s ≡ false
   -- "An inbound FIN moves 1 to 2 and 3 to 4; outbound moves 1 to 3 and 2 to 4." (SCOPE 8.7) Without FIN a phase stays.
   pub fin-inbound : phasesBy true Sender.Client ≡ 2 ∷ 2 ∷ 4 ∷ 4 ∷ []
   pub fin-outbound : (i : ServerNo) → phasesBy true (Sender.Server i) ≡ 3 ∷ 4 ∷ 3 ∷ 4 ∷ []
@@ -100,3 +110,4 @@ pub record Laws : Type 0 where
   pub unsound-first : UnsoundFirst
   pub unread-first : UnreadFirst
   pub full-first : FullFirst
+  pub never-full : NeverFull

@@ -1,8 +1,11 @@
--- The numbers of refusals (SCOPE section 4), and the result of a call. Assumes nothing: these are definitions.
+-- The numbers of refusals (SCOPE section 4), the result of a call, and a state with other servers. Assumes nothing: these are definitions.
 use Prim.Native.Nat.{ℕ}
 use mathlib.Core.Bool.{Bool, true, false, not}
 use mathlib.Core.List.{List}
 use Rattle.packet.specs.Reading.{faultNumber}
+use Rattle.servers.specs.declared.Server.{Server}
+use Rattle.servers.specs.Servers.{lowered}
+use Rattle.scheduler.specs.declared.walk.Walk.{Walk}
 use Rattle.table.specs.declared.slot.Slot.{Slot}
 use Rattle.table.specs.Slots.{slots, words}
 use Rattle.director.specs.declared.state.Director.{Director}
@@ -47,6 +50,14 @@ changesNothing Answer.Done = false
 changesNothing (Answer.Number n) = false
 changesNothing (Answer.Passed i change) = false
 changesNothing (Answer.Refused why) = not (keepsClock why)
+
+-- the state with other servers and another walk
+abbrev pub withServers : Director → List Server → Walk → Director
+withServers d servers walk = record { service = d .service; servers = servers; walk = walk; clock = d .clock }
+
+-- the state with one connection less on server i
+abbrev pub withOneLess : Director → ℕ → Director
+withOneLess d i = withServers d (lowered (d .servers) i) (d .walk)
 
 -- what a call is lent: the connection table, and the packet (none in a call that takes none)
 pub record Lent (T : Type 0) : Type 0 where

@@ -8,26 +8,30 @@ use crate::state::Director;
 use crate::state::Outcome;
 use crate::state::Service;
 use crate::state::refuse;
+use crate::state::with_one_less;
+use crate::state::with_servers;
 use packet::redirect::Side;
 use packet::redirect::redirect_packet;
 use scheduler::walk::Walk;
 use servers::Server;
 use servers::ServerNo;
-use servers::lower;
 use servers::raise;
 use servers::server_at;
 use table::change::free_slot;
 use table::change::open_slot;
 use table::change::touch_slot;
 use table::slot::SlotNo;
+use table::slot::server_no_at;
 use table::slot::slot_at;
 ghost use mathlib.Core.Path.{_≡_};
-ghost use Prim.Native.Nat.{_<_, _≤_};
+ghost use Prim.Native.Nat.{_<_, _≤_, _/_};
+ghost use lib.ListN.{length};
 ghost use Rattle.servers.specs.Servers.{countAt};
 ghost use Rattle.packet.specs.Redirect.{Redirectable};
-ghost use Rattle.table.specs.Slots.{slots, slotAt};
-ghost use Rattle.director.specs.State.{lent, result, inWords};
-ghost use Rattle.director.specs.Carry.{phaseOf, sentOn, forwarded, withServers, passedBy, keptHeld, endedHeld, openedHeld, carriedOut, Ready, Feasible};
+ghost use Rattle.table.specs.Slots.{wordsPerSlot, slots, words, slotAt, IsRow};
+ghost use Rattle.table.specs.Changes.{freed};
+ghost use Rattle.director.specs.State.{withOneLess, lent, result, inWords};
+ghost use Rattle.director.specs.Carry.{phaseOf, sentOn, forwarded, passedBy, keptHeld, endedHeld, openedHeld, renewedHeld, carriedOut, Ready, EndReady, OpenReady, Feasible};
 
 // The phase after a packet of a connection.
 fn phase_after(phase: u32, fin: bool, sender: Sender) -> u32
@@ -77,19 +81,6 @@ fn forward(packet: &mut [u8], service: Service, server: Server, sender: Sender)
     }
 }
 
-// The state with other servers and another walk.
-fn with_servers(director: Director, servers: [Server; 64], walk: Walk) -> Director
-    ensures { λ r. ⌜ r ≡ withServers director servers walk ⌝ }
-{
-    let service = director.service;
-    Director {
-        service,
-        servers,
-        walk,
-        clock: director.clock,
-    }
-}
-
 // An accepted packet of server `no`.
 fn pass(
     director: Director,
@@ -132,6 +123,18 @@ fn keep(
     pass(director, packet, segment, no, Change::Kept)
 }
 
+// The connection in slot `k` is taken off: the slot becomes free, and its server has one less.
+fn take_off(director: Director, row: &mut [u32], k: SlotNo) -> Director
+    requires { ⌜ IsRow (now row) × (k .0 < length (now row) / wordsPerSlot) ⌝ }
+    requires { ⌜ 1 ≤ countAt (director .servers) (slotAt (now row) (k .0) .server .0) ⌝ }
+    ensures state { λ r. ⌜ r ≡ withOneLess director (slotAt (now (row .entry)) (k .0) .server .0) ⌝ }
+    ensures row { λ r. ⌜ now (row .exit) ≡ words (freed (slots (now (row .entry))) (k .0)) ⌝ }
+{
+    let no = server_no_at(row, k);
+    free_slot(row, k);
+    with_one_less(director, no)
+}
+
 // The packet's connection, in slot `k`, is ended.
 fn end(
     director: Director,
@@ -140,16 +143,11 @@ fn end(
     segment: Segment,
     k: SlotNo,
 ) -> Outcome
-    requires { ⌜ Ready director (now row) (now packet) (k .0) ⌝ }
-    requires { ⌜ 1 ≤ countAt (director .servers) (slotAt (now row) (k .0) .server .0) ⌝ }
+    requires { ⌜ EndReady director (now row) (now packet) (k .0) ⌝ }
     ensures { λ r. ⌜ result r (now (row .exit)) (now (packet .exit)) ≡ inWords (endedHeld director (lent (slots (now (row .entry))) (now (packet .entry))) segment (k .0)) ⌝ }
 {
-    let slot = slot_at(row, k);
-    let no = slot.server;
-    free_slot(row, k);
-    let servers = director.servers;
-    let walk = director.walk;
-    let after = with_servers(director, lower(servers, no), walk);
+    let no = server_no_at(row, k);
+    let after = take_off(director, row, k);
     pass(after, packet, segment, no, Change::Ended)
 }
 
@@ -163,14 +161,32 @@ fn open(
     no: ServerNo,
     walk: Walk,
 ) -> Outcome
-    requires { ⌜ Ready director (now row) (now packet) (k .0) ⌝ }
-    requires { ⌜ countAt (director .servers) (no .0) < 4294967295 ⌝ }
+    requires { ⌜ OpenReady director (now row) (now packet) (k .0) (no .0) ⌝ }
     ensures { λ r. ⌜ result r (now (row .exit)) (now (packet .exit)) ≡ inWords (openedHeld director (lent (slots (now (row .entry))) (now (packet .entry))) segment (k .0) no walk) ⌝ }
 {
     open_slot(row, k, segment.address, segment.port, no, director.clock);
     let servers = director.servers;
     let after = with_servers(director, raise(servers, no), walk);
     pass(after, packet, segment, no, Change::Opened)
+}
+
+// The connection in slot `old` ends, and one of the packet's client to server `no` is opened in slot `k`.
+fn renew(
+    director: Director,
+    row: &mut [u32],
+    packet: &mut [u8],
+    segment: Segment,
+    old: SlotNo,
+    k: SlotNo,
+    no: ServerNo,
+    walk: Walk,
+) -> Outcome
+    requires { ⌜ EndReady director (now row) (now packet) (old .0) ⌝ }
+    requires { ⌜ OpenReady (withOneLess director (slotAt (now row) (old .0) .server .0)) (words (freed (slots (now row)) (old .0))) (now packet) (k .0) (no .0) ⌝ }
+    ensures { λ r. ⌜ result r (now (row .exit)) (now (packet .exit)) ≡ inWords (renewedHeld director (lent (slots (now (row .entry))) (now (packet .entry))) segment (old .0) (k .0) no walk) ⌝ }
+{
+    let ended = take_off(director, row, old);
+    open(ended, row, packet, segment, k, no, walk)
 }
 
 // Carries out what was decided of a packet.
@@ -189,5 +205,8 @@ pub fn carry_out(
         Decision::Keep(k) => keep(director, row, packet, segment, k),
         Decision::End(k) => end(director, row, packet, segment, k),
         Decision::Open(k, no, walk) => open(director, row, packet, segment, k, no, walk),
+        Decision::Renew(old, k, no, walk) => {
+            renew(director, row, packet, segment, old, k, no, walk)
+        }
     }
 }

@@ -1,8 +1,9 @@
-// What is to become of a packet that got past 11: refusals 12 to 14, or a connection kept, ended or opened. Nothing is changed here.
+// What is to become of a packet that got past 11: refusals 12 to 14, or a connection kept, ended, opened or renewed. Nothing is changed here.
 use crate::segment::Segment;
 use crate::segment::Sender;
 use crate::state::Director;
 use crate::state::Refusal;
+use crate::state::with_one_less;
 use packet::read::Flags;
 use scheduler::pick;
 use scheduler::walk::Picked;
@@ -11,22 +12,29 @@ use servers::ServerNo;
 use table::find::Found;
 use table::find::find_client;
 use table::find::find_free;
+use table::find::find_free_with;
 use table::slot::SlotNo;
 use table::slot::server_no_at;
+use table::slot::slot_at;
 ghost use mathlib.Core.Path.{_≡_};
-ghost use Prim.Native.Nat.{_<_, _/_};
+ghost use Prim.Native.Nat.{_<_, _≤_, _/_};
+ghost use lib.Dec.{eqb};
 ghost use lib.ListN.{length};
+ghost use Rattle.servers.specs.Servers.{countAt};
 ghost use Rattle.table.specs.Slots.{wordsPerSlot, slots, slotAt};
-ghost use mathlib.Core.Bool.{true};
+ghost use mathlib.Core.Bool.{true, _&&_};
 ghost use Rattle.director.specs.Judge.{soundOf};
-ghost use Rattle.director.specs.Decide.{isSyn, opens, belongs, onPresent, onFree, onAbsent, decided};
+ghost use Rattle.director.specs.Decide.{isSyn, opens, belongs, nextPick, onPick, onRenewal, onPresent, onAbsent, decided};
+ghost use Rattle.director.specs.declared.decide.Decision.{Decision};
 
-// What is to become of a packet: its refusal, or its connection's slot and, where one opens, the server and the walk after the pick.
+// What is to become of a packet: its refusal, or its connection's slot and, where one opens, the server and the walk after the pick; where
+// one opens as another ends, that one's slot first.
 pub enum Decision {
     Refuse(Refusal),
     Keep(SlotNo),
     End(SlotNo),
     Open(SlotNo, ServerNo, Walk),
+    Renew(SlotNo, SlotNo, ServerNo, Walk),
 }
 
 // SYN set and ACK, RST, FIN clear.
@@ -71,33 +79,69 @@ fn belongs_to(sender: Sender, no: ServerNo) -> bool
     }
 }
 
-// A packet whose client has a connection, in slot `k`.
-fn decide_present(row: &[u32], segment: Segment, k: SlotNo) -> Decision
-    requires { ⌜ k .0 < length (now row) / wordsPerSlot ⌝ }
-    ensures { λ r. ⌜ r ≡ onPresent segment k (slotAt (now (row .entry)) (k .0)) ⌝ }
+// Whether a packet ends a connection in that phase and opens a new one: TCP's 4 and an opening (UDP is never in phase 4).
+fn renews_connection(segment: Segment, phase: u32) -> bool
+    ensures { λ r. ⌜ r ≡ eqb phase 4 && opens 6 segment ⌝ }
 {
+    match phase {
+        4 => opens_connection(6, segment),
+        _ => false,
+    }
+}
+
+// The server that is next, by the scheduler.
+fn next_pick(director: Director) -> Picked
+    ensures { λ r. ⌜ r ≡ nextPick director ⌝ }
+{
+    let service = director.service;
+    let servers = director.servers;
+    let walk = director.walk;
+    pick(service.scheduler, servers, service.servers, walk)
+}
+
+// A packet that would open a connection in the free slot `k`.
+fn decide_free(director: Director, k: SlotNo) -> Decision
+    ensures { λ r. ⌜ r ≡ onPick (Decision.Open k) (nextPick director) ⌝ }
+{
+    match next_pick(director) {
+        Picked::Nobody => Decision::Refuse(Refusal::NoWeight),
+        Picked::Server(no, walk) => Decision::Open(k, no, walk),
+    }
+}
+
+// A packet that would open a connection where the finished one in slot `k` ends: its slot counts as free, its server has one less.
+fn decide_renewal(director: Director, row: &[u32], k: SlotNo) -> Decision
+    requires { ⌜ k .0 < length (now row) / wordsPerSlot ⌝ }
+    requires { ⌜ 1 ≤ countAt (director .servers) (slotAt (now row) (k .0) .server .0) ⌝ }
+    ensures { λ r. ⌜ r ≡ onRenewal director (slots (now (row .entry))) k ⌝ }
+{
+    let ended = with_one_less(director, server_no_at(row, k));
+    let free = find_free_with(row, k);
+    match next_pick(ended) {
+        Picked::Nobody => Decision::Refuse(Refusal::NoWeight),
+        Picked::Server(no, walk) => Decision::Renew(k, free, no, walk),
+    }
+}
+
+// A packet whose client has a connection, in slot `k`.
+fn decide_present(director: Director, row: &[u32], segment: Segment, k: SlotNo) -> Decision
+    requires { ⌜ soundOf director (now row) ≡ true ⌝ }
+    requires { ⌜ k .0 < length (now row) / wordsPerSlot ⌝ }
+    ensures { λ r. ⌜ r ≡ onPresent director (slots (now (row .entry))) segment k (slotAt (now (row .entry)) (k .0)) ⌝ }
+{
+    let slot = slot_at(row, k);
     let sender = segment.sender;
-    if !belongs_to(sender, server_no_at(row, k)) {
+    if !belongs_to(sender, slot.server) {
         return Decision::Refuse(Refusal::NoConnection);
+    }
+    if renews_connection(segment, slot.phase) {
+        return decide_renewal(director, row, k);
     }
     let flags = segment.flags;
     let rst = flags.rst;
     match rst {
         true => Decision::End(k),
         false => Decision::Keep(k),
-    }
-}
-
-// A packet that would open a connection in the free slot `k`.
-fn decide_free(director: Director, k: SlotNo) -> Decision
-    ensures { λ r. ⌜ r ≡ onFree director k ⌝ }
-{
-    let service = director.service;
-    let servers = director.servers;
-    let walk = director.walk;
-    match pick(service.scheduler, servers, service.servers, walk) {
-        Picked::Nobody => Decision::Refuse(Refusal::NoWeight),
-        Picked::Server(no, moved) => Decision::Open(k, no, moved),
     }
 }
 
@@ -121,7 +165,7 @@ pub fn decide(director: Director, row: &[u32], segment: Segment) -> Decision
     ensures { λ r. ⌜ r ≡ decided director (slots (now (row .entry))) segment ⌝ }
 {
     match find_client(row, segment.address, segment.port) {
-        Found::At(k) => decide_present(row, segment, k),
+        Found::At(k) => decide_present(director, row, segment, k),
         Found::Nothing => decide_absent(director, row, segment),
     }
 }

@@ -3,8 +3,11 @@ use packet::read::Fault;
 use scheduler::walk::Walk;
 use servers::Server;
 use servers::ServerNo;
+use servers::lower;
 ghost use mathlib.Core.Path.{_≡_};
-ghost use Rattle.director.specs.State.{refusedBy};
+ghost use Prim.Native.Nat.{_≤_};
+ghost use Rattle.servers.specs.Servers.{countAt};
+ghost use Rattle.director.specs.State.{refusedBy, withServers, withOneLess};
 
 // What the director serves: given by setup, and changed by nothing else.
 #[repr(C)]
@@ -91,4 +94,27 @@ pub fn refuse(director: Director, why: Refusal) -> Outcome
         answer: Answer::Refused(why),
         director,
     }
+}
+
+// The state with other servers and another walk.
+pub fn with_servers(director: Director, servers: [Server; 64], walk: Walk) -> Director
+    ensures { λ r. ⌜ r ≡ withServers director servers walk ⌝ }
+{
+    let service = director.service;
+    Director {
+        service,
+        servers,
+        walk,
+        clock: director.clock,
+    }
+}
+
+// The state with one connection less on server `no`, which has one.
+pub fn with_one_less(director: Director, no: ServerNo) -> Director
+    requires { ⌜ 1 ≤ countAt (director .servers) (no .0) ⌝ }
+    ensures { λ r. ⌜ r ≡ withOneLess director (no .0) ⌝ }
+{
+    let servers = director.servers;
+    let walk = director.walk;
+    with_servers(director, lower(servers, no), walk)
 }

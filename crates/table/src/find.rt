@@ -1,9 +1,11 @@
-// Searches in the row: the lowest used slot of a client, and the lowest free slot.
+// Searches in the row: the lowest used slot of a client, the lowest free slot, and that where a used one counts as free.
 ghost use mathlib.Core.Path.{_≡_};
 ghost use Prim.Native.Nat.{_<_, _/_};
 ghost use lib.ListN.{length};
 ghost use Rattle.table.specs.Slots.{wordsPerSlot, slots, slotAt, isUnused};
 ghost use Rattle.table.specs.Find.{ofClient, firstFrom};
+ghost use Rattle.table.specs.Changes.{freed};
+ghost use Rattle.table.specs.declared.find.Found.{Found};
 use crate::slot::ADDRESS;
 use crate::slot::PORT;
 use crate::slot::SlotNo;
@@ -56,4 +58,17 @@ pub fn find_free(row: &[u32]) -> Found
         }
     }
     Found::Nothing
+}
+
+// The lowest slot that is free once slot `k` is freed: there always is one.
+pub fn find_free_with(row: &[u32], k: SlotNo) -> SlotNo
+    requires { ⌜ k .0 < length (now row) / wordsPerSlot ⌝ }
+    ensures { λ r. ⌜ Found.At r ≡ firstFrom isUnused 0 (freed (slots (now (row .entry))) (k .0)) ⌝ }
+{
+    for j in 0..k.0 {
+        if is_unused_at(row, SlotNo(j)) {
+            return SlotNo(j);
+        }
+    }
+    k
 }

@@ -16,6 +16,9 @@ end-requires c κs = rw (c .before .before .before .decision3 .given .1) at (c .
 open-requires : tie.Need-open-requires
 open-requires c κs = rw (c .before .before .before .decision4 .given .1) at (c .before .before .before .before .before .before .before .pre)
 
+renew-requires : tie.Need-renew-requires
+renew-requires c κs = rw (c .before .before .before .decision5 .given .1) at (c .before .before .before .before .before .before .before .pre)
+
 returns : tie.Need-returns
 returns c =
     let a = c .before .before .before .before .before .before in
@@ -32,6 +35,9 @@ returns-3 c = rw (c .before .before .before .before .before .before .before .bef
 returns-4 : tie.Need-returns-4
 returns-4 c = rw (c .before .before .before .before .before .before .before .before .decision4 .given .1) (c .before .before .before .before .«open» .ensures)
 
+returns-5 : tie.Need-returns-5
+returns-5 c = rw (c .before .before .before .before .before .before .before .before .decision5 .given .1) (c .before .before .before .before .renew .ensures)
+
 pub carry-out-spec : {M : Type 1} → statement M
 carry-out-spec =
     tie.close
@@ -44,6 +50,8 @@ carry-out-spec =
     end-requires
     (λ c. search needs)
     open-requires
+    (λ c. search needs)
+    renew-requires
     returns
     (λ c. search needs)
     (λ c. search needs)
@@ -53,4 +61,7 @@ carry-out-spec =
     returns-3
     (λ c. search needs)
     (λ c. search needs)
-    returns-4)
+    returns-4
+    (λ c. search needs)
+    (λ c. search needs)
+    returns-5)

@@ -13,7 +13,7 @@ use Rattle.director.proofs.decide.decide.Tie as tie
 decide-present-requires : tie.Need-decide-present-requires
 decide-present-requires c κs =
     let found = found-lowest _ _ _ (sym (c .before .before .before .find-client .ensures) ∙ c .before .k .given .1) in
-    omega (arith, found, length-slots (now (c .before .before .before .before .before .args .row)))
+    (c .before .before .before .before .before .pre, omega (arith, found, length-slots (now (c .before .before .before .before .before .args .row))))
 
 returns : tie.Need-returns
 unfolding decided
