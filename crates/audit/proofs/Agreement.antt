@@ -22,7 +22,7 @@ use Rattle.table.specs.Find.{ofClient as slotOfClient, firstFrom, Unique}
 use Rattle.table.specs.Expire.{isIdle, loweredBy}
 use Rattle.table.specs.Changes.{opened, touched, freed}
 use Rattle.table.proofs.Rows.{is-row}
-use Rattle.table.proofs.Clients.{cleared-unique, opened-unique, touched-unique, freed-unique}
+use Rattle.table.proofs.Clients.{cleared-unique, opened-unique, touched-unique, freed-unique, freed-absent}
 use Rattle.table.proofs.Empty.{empty-none, empty-unique}
 use Rattle.director.specs.declared.state.Service.{Service}
 use Rattle.director.specs.declared.state.Director.{Director}
@@ -30,7 +30,8 @@ use Rattle.director.specs.declared.segment.Segment.{Segment}
 use Rattle.director.specs.Setup.{newDirector}
 use Rattle.director.specs.Control.{weighed}
 use Rattle.director.specs.Tick.{settled, settledSlots}
-use Rattle.director.specs.Carry.{phaseAfter, withServers}
+use Rattle.director.specs.State.{withServers, withOneLess}
+use Rattle.director.specs.Carry.{phaseAfter}
 use Rattle.director.proofs.Sound.{Accepted}
 use Rattle.audit.specs.Calls.{setUp, Fits}
 use Rattle.audit.specs.Book.{Entry, Book, ofClient, isStruck, newEntry, marked, onClient}
@@ -144,3 +145,13 @@ module _ (d : Director) (l : List Slot) (given : List Server) (es : List Entry) 
       ends = ends-with _ (ends-set (d .servers) i _ (d .service .servers) refl refl);
       fits = t .fits;
     }
+
+-- 7. It is ended, and another is opened in slot j
+pub matches-renewed : (d : Director) (l : List Slot) (given : List Server) (es : List Entry) → Matches d l given es
+    → (m : Segment) (k : ℕ) → k < length l → slotOfClient (m .address) (m .port) (getD l k freeSlot) ≡ true
+    → (old j i : ℕ) (walk : Walk) → j < length (freed l k) → isUnused (getD (freed l k) j freeSlot) ≡ true
+    → Matches (withServers d (raised (lowered (d .servers) old) i) walk) (opened (freed l k) j (m .address) (m .port) i (d .clock)) given
+    (newEntry m i (d .clock) ∷ keep (λ e. not (ofClient (m .address) (m .port) e)) es)
+matches-renewed d l given es t m k h its old j i walk within free =
+    matches-opened (withOneLess d old) (freed l k) given _ (matches-ended d l given es t m k h its old) m j i walk within free
+    (freed-absent l k h (t .unique) (m .address) (m .port) its)

@@ -99,6 +99,7 @@ module _ (s : State) (way : Way) (p : List ℕ) (now : ℕ) where
   by-decision m (Decision.Keep k) late = absurd (early 0 (omega arith) late)
   by-decision m (Decision.End k) late = absurd (early 0 (omega arith) late)
   by-decision m (Decision.Open k i walk) late = absurd (early 0 (omega arith) late)
+  by-decision m (Decision.Renew old k i walk) late = absurd (early 0 (omega arith) late)
 
   by-clock : (m : Segment) (earlier : Bool) → Goal (onClock d (lent (slots (s .row)) p) m now earlier)
   unfolding routed

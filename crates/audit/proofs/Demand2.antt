@@ -17,15 +17,18 @@ use Rattle.packet.specs.Laws.{SameUpToTotal}
 use Rattle.packet.proofs.Redirections.{laws}
 use Rattle.servers.specs.declared.Server.{Server}
 use Rattle.servers.specs.declared.ServerNo.{ServerNo}
-use Rattle.servers.specs.Servers.{serverAt}
+use Rattle.servers.specs.Servers.{serverAt, lowered}
 use Rattle.servers.proofs.Ends.{SameEnds, ends-chain}
 use Rattle.servers.proofs.Kept.{ends-set}
 use Rattle.scheduler.specs.declared.walk.Walk.{Walk}
 use Rattle.table.specs.declared.slot.Slot.{Slot}
 use Rattle.table.specs.declared.slot.SlotNo.{SlotNo}
 use Rattle.table.specs.Slots.{slots, words, slotAt}
+use Rattle.table.specs.Find.{ofClient}
+use Rattle.table.specs.Changes.{freed}
 use Rattle.table.specs.Expire.{isIdle}
 use Rattle.table.proofs.Rows.{slots-words}
+use Rattle.table.proofs.Finding.{lowest-found}
 use Rattle.director.specs.declared.state.Service.{Service}
 use Rattle.director.specs.declared.state.Director.{Director}
 use Rattle.director.specs.declared.state.Refusal.{Refusal}
@@ -36,21 +39,22 @@ use Rattle.director.specs.declared.segment.Sender.{Sender}
 use Rattle.director.specs.declared.segment.Segment.{Segment}
 use Rattle.director.specs.declared.segment.Seen.{Seen}
 use Rattle.director.specs.declared.decide.Decision.{Decision}
-use Rattle.director.specs.State.{lent, Result, inWords, refusal}
+use Rattle.director.specs.State.{withServers, withOneLess, lent, Result, inWords, refusal}
 use Rattle.director.specs.Judge.{soundOf}
 use Rattle.director.specs.Tick.{settled, settledSlots}
 use Rattle.director.specs.Segment.{onReading, segmentRead}
 use Rattle.director.specs.Decide.{decided}
-use Rattle.director.specs.Carry.{sentOn, withServers, passed, carriedOut}
+use Rattle.director.specs.Carry.{sentOn, passed, carriedOut}
 use Rattle.director.specs.Packets.{routed, onClock, onSeen, packetHeld, packetOnSound, packetOf}
 use Rattle.director.proofs.Sound.{Sound, sound-parts}
 use Rattle.director.proofs.Settled.{settled-sound}
 use Rattle.director.proofs.Segments.{read-from}
-use Rattle.director.proofs.Decisions.{Its, Grounded, decided-grounded}
+use Rattle.director.proofs.Ending.{ended-parts}
+use Rattle.director.proofs.Decisions.{Its, Opening, Grounded, decided-grounded}
 use Rattle.director.proofs.Carried.{its-slot}
 use Rattle.audit.specs.Calls.{EndsFit}
 use Rattle.audit.specs.Claim.{isOpened}
-use Rattle.audit.specs.Demand2.{ResultClaim, Rewritten, Alike, Published, Demand2}
+use Rattle.audit.specs.Demand2.{ResultClaim, Rewritten, Alike, Published, seenByPick, Demand2}
 use Rattle.audit.proofs.Agreement.{ends-lowered}
 use Rattle.audit.proofs.Published.{published}
 use Rattle.audit.proofs.Rewriting.{rewritten}
@@ -97,6 +101,7 @@ module _ (d : Director) (p p′ : List ℕ) (same : SameUpToTotal p p′) where
     carried-alike l (Decision.Keep k) = passed-alike (present .servers) (present .walk) _ _ Change.Kept
     carried-alike l (Decision.End k) = passed-alike _ (present .walk) _ _ Change.Ended
     carried-alike l (Decision.Open k i walk) = passed-alike _ walk _ i Change.Opened
+    carried-alike l (Decision.Renew old k i walk) = passed-alike _ walk _ i Change.Opened
 
   module _ (row : List ℕ) (now : ℕ) where
     by-clock-alike : (way : Way) (m : Segment) → segmentRead way (d .service) (d .servers) p ≡ Seen.Segment m → (e : Bool)
@@ -132,6 +137,15 @@ same-server i j x y e = cc
 same-change : (i j : ServerNo) (x y : Change) → Answer.Passed i x ≡ Answer.Passed j y → x ≡ y
 same-change i j x y e = cc
 
+one-segment : (m m′ : Segment) → Seen.Segment m ≡ Seen.Segment m′ → m ≡ m′
+one-segment m m′ e = cc
+
+-- an opening in a sound state goes to whom the published scheduler picks
+picked-right : (d : Director) (row : List ℕ) → Sound d row → (k : ℕ) (i : ServerNo) (walk : Walk) → Opening d (slots row) k (i .0) walk
+    → Published (d .service .scheduler) (d .servers) (d .service .servers) (d .walk) i walk
+picked-right d row sound k i walk new =
+    published (d .service .scheduler) (d .servers) (d .service .servers) (d .walk) i walk (sound .settings .some) (sound .range) (new .picked)
+
 module _ (way : Way) (d : Director) (row p : List ℕ) (now : ℕ) (fits : EndsFit (d .service) (d .servers)) (bytes : Bytes p) where
   abbrev Goal : Result → Type 0
   Goal = ResultClaim way d row p now
@@ -140,7 +154,7 @@ module _ (way : Way) (d : Director) (row p : List ℕ) (now : ℕ) (fits : EndsF
   refused-right : (why : Refusal) (d′ : Director) (row′ : List ℕ) → d′ .walk ≡ d .walk → Goal (refusal why d′ (lent row′ p))
   refused-right why d′ row′ walk = record {
     rewritten = λ i change e. absurd (refused-other why i change e);
-    picked = λ i e. absurd (refused-other why i Change.Opened e);
+    picked = λ i m e seen. absurd (refused-other why i Change.Opened e);
     unmoved = λ _. walk;
     unwritten = refl;
   }
@@ -152,13 +166,16 @@ module _ (way : Way) (d : Director) (row p : List ℕ) (now : ℕ) (fits : EndsF
     abbrev present : Director
     present = settled d (slots row) now
 
+    abbrev left : List Slot
+    left = settledSlots d (slots row) now
+
     ends : SameEnds n (present .servers) (d .servers)
     ends = ends-lowered n (isIdle (d .service .protocol) now) (slots row) (d .servers)
 
     -- accepted: a packet of server i
     passed-right : (i : ServerNo) (change : Change) (servers : List Server) (walk : Walk) (l : List Slot) → i .0 < n → SameEnds n servers (d .servers)
         → (isOpened change ≡ false → walk ≡ d .walk)
-        → (isOpened change ≡ true → Published (d .service .scheduler) (present .servers) n (d .walk) i walk)
+        → (isOpened change ≡ true → Published (d .service .scheduler) (seenByPick present left m) n (d .walk) i walk)
         → Goal (inWords (passed (withServers present servers walk) (lent l p) m i change))
     passed-right i change servers walk l exists same moved pick =
         let from = read-from d p m way seen in
@@ -168,14 +185,15 @@ module _ (way : Way) (d : Director) (row p : List ℕ) (now : ℕ) (fits : EndsF
           rewritten = λ j x e.
               subst (λ (k : ServerNo). Rewritten way d (k .0) p (sentOn (d .service) (serverAt servers (i .0)) p (m .sender))) (same-server i j change x e)
               (rewritten d row p (sound-parts d row sound .settings) fits bytes (i .0) exists servers same way m seen);
-          picked = λ j e.
-              subst (λ (k : ServerNo). Published (d .service .scheduler) (present .servers) n (d .walk) k walk) (same-server i j change Change.Opened e)
-              (pick (ap isOpened (same-change i j change Change.Opened e)));
+          picked = λ j m′ e seen′.
+              subst (λ (x : Segment). Published (d .service .scheduler) (seenByPick present left x) n (d .walk) j walk) (one-segment m m′ (sym seen ∙ seen′))
+              (subst (λ (k : ServerNo). Published (d .service .scheduler) (seenByPick present left m) n (d .walk) k walk) (same-server i j change Change.Opened e)
+              (pick (ap isOpened (same-change i j change Change.Opened e))));
           unmoved = moved;
           unwritten = sent-past (d .service) (serverAt servers (i .0)) p p (from .packet) (from .taken) alone (m .sender) .0;
         }
 
-    module _ (row′ : List ℕ) (whole : Sound present row′) where
+    module _ (row′ : List ℕ) (whole : Sound present row′) (rest : slots row′ ≡ left) where
       -- a packet of the connection in slot k
       its-right : (k : SlotNo) (rst : Bool) → Its (slots row′) m (k .0) rst → (change : Change) → isOpened change ≡ false → (servers : List Server) (l : List Slot)
           → SameEnds n servers (present .servers) → Goal (inWords (passed (withServers present servers (d .walk)) (lent l p) m (slotAt row′ (k .0) .server) change))
@@ -190,18 +208,28 @@ module _ (way : Way) (d : Director) (row p : List ℕ) (now : ℕ) (fits : EndsF
       by-decision (Decision.End k) its =
           its-right k true its Change.Ended refl _ _ (ends-set (present .servers) (slotAt row′ (k .0) .server .0) _ n refl refl)
       by-decision (Decision.Open k i walk) new =
-          passed-right i Change.Opened _ walk _ (new .server)
+          passed-right i Change.Opened _ walk _ (new .opening .server)
           (ends-chain n _ (present .servers) (d .servers) (ends-set (present .servers) (i .0) _ n refl refl) ends)
           (λ e. absurd (true≢false e))
-          (λ _. published (d .service .scheduler) (present .servers) n (d .walk) i walk (whole .settings .some) (whole .range) (new .picked))
+          (λ _. rw (← rest, new .absent) (picked-right present row′ whole (k .0) i walk (new .opening)))
+      by-decision (Decision.Renew old k i walk) new =
+          let s = slotAt row′ (old .0) in
+          let found = lowest-found (ofClient (m .address) (m .port)) (slots row′) (old .0) (new .its .lowest) in
+          let l = freed (slots row′) (old .0) in
+          let whole′ = ended-parts present row′ whole (old .0) (new .its .lowest .within) (new .its .used) in
+          passed-right i Change.Opened _ walk _ (new .opening .server)
+          (ends-chain n _ (lowered (present .servers) (s .server .0)) (d .servers) (ends-set (lowered (present .servers) (s .server .0)) (i .0) _ n refl refl)
+          (ends-chain n _ (present .servers) (d .servers) (ends-set (present .servers) (s .server .0) _ n refl refl) ends))
+          (λ e. absurd (true≢false e))
+          (λ _. rw (← rest, found, new .renews)
+          (picked-right (withOneLess present (s .server .0)) (words l) whole′ (k .0) i walk (rw (slots-words l) (new .opening))))
 
     by-clock : (e : Bool) → ltb now (d .clock) ≡ e → Goal (inWords (onClock d (lent (slots row) p) m now e))
     unfolding routed
     by-clock true e = refused-right Refusal.EarlierClock d (words (slots row)) refl
     by-clock false e =
-        let left = settledSlots d (slots row) now in
         let whole = sound-parts present (words left) (settled-sound d row now sound (ltb-false now (d .clock) e)) in
-        rw slots-words at (by-decision (words left) whole (decided present (slots (words left)) m) (decided-grounded present (words left) whole m))
+        rw slots-words at (by-decision (words left) whole (slots-words left) (decided present (slots (words left)) m) (decided-grounded present (words left) whole m))
 
   by-seen : soundOf d row ≡ true → (x : Seen) → segmentRead way (d .service) (d .servers) p ≡ x → Goal (inWords (onSeen d (lent (slots row) p) now x))
   by-seen sound (Seen.Refused why) seen = refused-right why d (words (slots row)) refl

@@ -1,12 +1,12 @@
 -- Each call gives the number of the lowest-placed of its tests that fails, and 0 where none does. Assumes nothing.
-use Prim.Native.Nat.{ℕ}
-use mathlib.Core.Bool.{Bool, true, false, cond, not, _&&_}
+use Prim.Native.Nat.{ℕ, _-_, _<_}
+use mathlib.Core.Bool.{Bool, true, false, cond, not, _&&_, _||_}
 use mathlib.Core.List.{List, []}
 use mathlib.Core.Logic.{⊎-elim}
 use mathlib.Core.Path.{_≡_, refl, _∙_}
 use borrow.Author.Tests.{ltb-false}
 use lib.Dec.{eqb, ltb}
-use lib.ListN.{getD}
+use lib.ListN.{length, getD}
 use Rattle.lists.proofs.Cases.{truth}
 use Rattle.packet.specs.declared.read.Fault.{Fault}
 use Rattle.packet.specs.declared.read.Flags.{Flags}
@@ -17,19 +17,26 @@ use Rattle.checksum.specs.Ones.{wordAt}
 use Rattle.packet.specs.Bytes.{addressAt, payload}
 use Rattle.packet.specs.Reading.{broken, fragment, tcpMalformed, udpMalformed, flagsOf, noFlags, headerOf, portsOf, packetWith, readTransport, withTransport, readPayload, onHeader, readPacket}
 use Rattle.servers.specs.declared.Server.{Server}
+use Rattle.servers.specs.declared.ServerNo.{ServerNo}
 use Rattle.servers.specs.declared.Found.{Found}
 use Rattle.servers.specs.declared.rules.Rule.{Rule}
+use Rattle.servers.specs.Servers.{countAt}
 use Rattle.servers.specs.Rules.{allKeep, isNobody, numberOf}
 use Rattle.scheduler.specs.declared.walk.Picked.{Picked}
-use Rattle.scheduler.specs.ByNumber.{pickOf}
+use Rattle.scheduler.specs.declared.walk.Walk.{Walk}
 use Rattle.scheduler.specs.Weights.{noWeight}
 use Rattle.scheduler.specs.Laws.{isNobody as nobodyPicked}
 use Rattle.scheduler.proofs.Picks.{pick-nobody}
+use Rattle.scheduler.proofs.Ranges.{count-in-range}
 use Rattle.table.specs.declared.slot.Slot.{Slot}
 use Rattle.table.specs.declared.slot.SlotNo.{SlotNo}
 use Rattle.table.specs.declared.find.Found.{Found as FoundSlot}
 use Rattle.table.specs.Slots.{slots, words, freeSlot, isUnused}
 use Rattle.table.specs.Find.{ofClient, firstFrom}
+use Rattle.table.specs.Changes.{freed}
+use Rattle.table.proofs.Rows.{slots-words}
+use Rattle.table.proofs.Finding.{found-lowest}
+use Rattle.table.proofs.Freeing.{freed-found}
 use Rattle.director.specs.declared.state.Service.{Service}
 use Rattle.director.specs.declared.state.Director.{Director}
 use Rattle.director.specs.declared.state.Refusal.{Refusal}
@@ -39,21 +46,22 @@ use Rattle.director.specs.declared.segment.Segment.{Segment}
 use Rattle.director.specs.declared.segment.Seen.{Seen}
 use Rattle.director.specs.declared.decide.Decision.{Decision}
 use Rattle.director.specs.declared.state.Answer.{Answer}
-use Rattle.director.specs.State.{Lent, lent, Result, refusalNumber}
+use Rattle.director.specs.State.{withOneLess, Lent, lent, Result, refusalNumber}
 use Rattle.director.specs.Judge.{sizesRight, serviceRight, settingsJudged, soundOf}
 use Rattle.director.specs.Setup.{onVerdict, setupOf}
 use Rattle.director.specs.Control.{numberJudged, onWeight, weightOf, onCount, countCallOf}
 use Rattle.director.specs.Tick.{settled, settledSlots, tickOnSound, tickOf}
 use Rattle.director.specs.Segment.{inboundSegment, onNumber, onWay, onReading, segmentRead}
-use Rattle.director.specs.Decide.{opens, belongs, onRst, onPresent, onPick, onRoom, onClient, decided}
+use Rattle.director.specs.Decide.{opens, belongs, nextPick, onPick, onRoom, renews, onRenewal, onRst, onPresent, onClient, decided}
 use Rattle.director.specs.Carry.{carriedOut}
 use Rattle.director.specs.Packets.{routed, onClock, onSeen, packetHeld, packetOf}
 use Rattle.director.specs.Laws.{isIts}
-use Rattle.director.proofs.Sound.{sound-parts}
+use Rattle.director.proofs.Sound.{Sound, sound-parts}
+use Rattle.director.proofs.Ending.{ended-parts}
 use Rattle.director.proofs.Settled.{settled-sound}
-use Rattle.director.proofs.Decisions.{others-open-none, scheduler-known}
+use Rattle.director.proofs.Decisions.{others-open-none, renewing, scheduler-known}
 use Rattle.audit.specs.Calls.{Call, setUp, setWeight, count, tick, packet, State, called}
-use Rattle.audit.specs.Demand1.{lowestFailing, setupTests, numberTests, tickTests, transportMalformed, isElsewhere, isPresent, routeTests, seenTests, packetTests, tests, numberGiven}
+use Rattle.audit.specs.Demand1.{lowestFailing, setupTests, numberTests, tickTests, transportMalformed, isElsewhere, isPresent, isRenewal, routeTests, seenTests, packetTests, tests, numberGiven}
 
 -- 1. Setup, weight, count and tick
 
@@ -111,6 +119,7 @@ decisionNumber (Decision.Refuse why) = refusalNumber why
 decisionNumber (Decision.Keep k) = 0
 decisionNumber (Decision.End k) = 0
 decisionNumber (Decision.Open k i walk) = 0
+decisionNumber (Decision.Renew old k i walk) = 0
 
 carried-number : (d : Director) (x : Lent (List Slot)) (m : Segment) (a : Decision) → numberGiven (carriedOut d x m a .answer) ≡ decisionNumber a
 unfolding decisionNumber
@@ -118,9 +127,23 @@ carried-number d x m (Decision.Refuse why) = refl
 carried-number d x m (Decision.Keep k) = refl
 carried-number d x m (Decision.End k) = refl
 carried-number d x m (Decision.Open k i walk) = refl
+carried-number d x m (Decision.Renew old k i walk) = refl
 
-module _ (d : Director) (l : List Slot) (m : Segment)
-    (nobody : nobodyPicked (pickOf (d .service .scheduler) (d .servers) (d .service .servers) (d .walk)) ≡ noWeight (d .servers) (d .service .servers)) where
+-- nobody is picked exactly where every weight is 0
+nobody : (d : Director) (row : List ℕ) → Sound d row → nobodyPicked (nextPick d) ≡ noWeight (d .servers) (d .service .servers)
+nobody d row sound =
+    pick-nobody (d .service .scheduler) (d .servers) (d .service .servers) (d .walk) (scheduler-known (d .service) (sound .settings .right)) (sound .range)
+
+on-pick : (make : ServerNo → Walk → Decision) → ((i : ServerNo) (walk : Walk) → decisionNumber (make i walk) ≡ 0)
+    → (p : Picked) → decisionNumber (onPick make p) ≡ cond (nobodyPicked p) 14 0
+unfolding decisionNumber
+on-pick make accepted Picked.Nobody = refl
+on-pick make accepted (Picked.Server i walk) = accepted i walk
+
+module _ (d : Director) (row : List ℕ) (sound : Sound d row) (m : Segment) where
+  abbrev l : List Slot
+  l = slots row
+
   abbrev new : Bool
   new = opens (d .service .protocol) m
 
@@ -131,41 +154,62 @@ module _ (d : Director) (l : List Slot) (m : Segment)
   abbrev routeNumber : FoundSlot → FoundSlot → ℕ
   routeNumber client free =
       cond (not (isIts l m client) && not new) 12
-      (cond ((not (isPresent client) && new) && not (isPresent free)) 13 (cond ((not (isPresent client) && new) && none) 14 0))
+      (cond ((not (isPresent client) && new) && not (isPresent free)) 13
+      (cond (((not (isPresent client) && new) || isRenewal l m client) && none) 14 0))
 
-  on-present : (k : SlotNo) (free : FoundSlot) → decisionNumber (onPresent m k (getD l (k .0) freeSlot)) ≡ routeNumber (FoundSlot.At k) free
-  unfolding decisionNumber
-  on-present k free = by-belongs (belongs (m .sender) (getD l (k .0) freeSlot .server)) refl (m .flags .rst)
-    where
-      by-belongs : (here : Bool) → belongs (m .sender) (getD l (k .0) freeSlot .server) ≡ here
-          → (rst : Bool) → decisionNumber (cond here (onRst k rst) (Decision.Refuse Refusal.NoConnection)) ≡ cond (not here && not new) 12 0
-      by-belongs true e true = refl
-      by-belongs true e false = refl
-      by-belongs false e rst = rw (others-open-none (d .service .protocol) (m .flags) (m .sender) (getD l (k .0) freeSlot .server) e)
+  -- the client has a connection, in slot k
+  module _ (k : SlotNo) (found : firstFrom (ofClient (m .address) (m .port)) 0 l ≡ FoundSlot.At k) where
+    abbrev s : Slot
+    s = getD l (k .0) freeSlot
 
-  on-pick : (k : SlotNo) (p : Picked) → decisionNumber (onPick k p) ≡ cond (nobodyPicked p) 14 0
-  unfolding decisionNumber
-  on-pick k Picked.Nobody = refl
-  on-pick k (Picked.Server i walk) = refl
+    abbrev ended : Director
+    ended = withOneLess d (s .server .0)
+
+    within : k .0 < length l
+    within = found-lowest (ofClient (m .address) (m .port)) l (k .0) found .within
+
+    -- a slot is free then, and the weights are the same
+    by-free : renews m s ≡ true → (f : FoundSlot) → firstFrom isUnused 0 (freed l (k .0)) ≡ f
+        → decisionNumber (onRoom ended (Decision.Renew k) f) ≡ cond none 14 0
+    unfolding decisionNumber
+    by-free renewed FoundSlot.Nothing e = absurd (freed-found l (k .0) within e)
+    by-free renewed (FoundSlot.At j) e =
+        let used : isUnused s ≡ false = rw (renewing 6 m s renewed .0) in
+        let same = count-in-range (d .servers) (d .service .servers) (s .server .0) (countAt (d .servers) (s .server .0) - 1) .0 in
+        on-pick (Decision.Renew k j) (λ i walk. refl) (nextPick ended)
+        ∙ rw (nobody ended (words (freed l (k .0))) (ended-parts d row sound (k .0) within used), same)
+
+    on-present : (free : FoundSlot) → decisionNumber (onPresent d l m k s) ≡ routeNumber (FoundSlot.At k) free
+    unfolding decisionNumber
+    on-present free = by-tests (belongs (m .sender) (s .server)) refl (renews m s) refl (m .flags .rst)
+      where
+        by-tests : (here : Bool) → belongs (m .sender) (s .server) ≡ here → (renewed : Bool) → renews m s ≡ renewed → (rst : Bool)
+            → decisionNumber (cond here (cond renewed (onRenewal d l k) (onRst k rst)) (Decision.Refuse Refusal.NoConnection))
+            ≡ cond (not here && not new) 12 (cond (renewed && none) 14 0)
+        by-tests true e true r rst = by-free r (firstFrom isUnused 0 (freed l (k .0))) refl
+        by-tests true e false r true = refl
+        by-tests true e false r false = refl
+        by-tests false e renewed r rst = rw (others-open-none (d .service .protocol) (m .flags) (m .sender) (s .server) e)
 
   on-absent : (opening : Bool) (free : FoundSlot)
-      → decisionNumber (cond opening (onRoom d free) (Decision.Refuse Refusal.NoConnection))
-      ≡ cond (not opening) 12 (cond (opening && not (isPresent free)) 13 (cond (opening && none) 14 0))
+      → decisionNumber (cond opening (onRoom d Decision.Open free) (Decision.Refuse Refusal.NoConnection))
+      ≡ cond (not opening) 12 (cond (opening && not (isPresent free)) 13 (cond ((opening || false) && none) 14 0))
   unfolding decisionNumber
   on-absent false free = refl
   on-absent true FoundSlot.Nothing = refl
-  on-absent true (FoundSlot.At k) = on-pick k (pickOf (d .service .scheduler) (d .servers) (d .service .servers) (d .walk)) ∙ rw nobody
+  on-absent true (FoundSlot.At k) = on-pick (Decision.Open k) (λ i walk. refl) (nextPick d) ∙ rw (nobody d row sound)
 
-  by-client : (client : FoundSlot) → decisionNumber (onClient d l m client) ≡ routeNumber client (firstFrom isUnused 0 l)
-  by-client (FoundSlot.At k) = on-present k (firstFrom isUnused 0 l)
-  by-client FoundSlot.Nothing = on-absent new (firstFrom isUnused 0 l)
+  by-client : (client : FoundSlot) → firstFrom (ofClient (m .address) (m .port)) 0 l ≡ client
+      → decisionNumber (onClient d l m client) ≡ routeNumber client (firstFrom isUnused 0 l)
+  by-client (FoundSlot.At k) found = on-present k found (firstFrom isUnused 0 l)
+  by-client FoundSlot.Nothing found = on-absent new (firstFrom isUnused 0 l)
 
   route-exactly : (p : List ℕ) → numberGiven (routed d (lent l p) m .answer) ≡ lowestFailing (routeTests d l m)
   unfolding routed decided
   route-exactly p =
       let client = firstFrom (ofClient (m .address) (m .port)) 0 l in
       let listed : routeNumber client (firstFrom isUnused 0 l) ≡ lowestFailing (routeTests d l m) = refl in
-      carried-number d (lent l p) m (decided d l m) ∙ by-client client ∙ listed
+      carried-number d (lent l p) m (decided d l m) ∙ by-client client refl ∙ listed
 
 -- 3. A packet call
 
@@ -197,8 +241,7 @@ module _ (way : Way) (d : Director) (row p : List ℕ) (now : ℕ) (sound : soun
       by-clock true e = refl
       by-clock false e =
           let after = sound-parts settledOne (words left) (settled-sound d row now sound (ltb-false now (d .clock) e)) in
-          route-exactly settledOne left m
-          (pick-nobody (g .scheduler) (settledOne .servers) (g .servers) (d .walk) (scheduler-known g (after .settings .right)) (after .range)) p
+          rw (slots-words left) at (route-exactly settledOne (words left) after m p)
 
   -- 10
   on-endpoint : (way : Way) (flags : Flags) → let s = onWay g (d .servers) (packetWith (headerOf p) (portsOf (payload p) flags)) way in

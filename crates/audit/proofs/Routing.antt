@@ -4,15 +4,15 @@ use Prim.Native.Nat.{ℕ, _<_, _≤_}
 use mathlib.Core.Bool.{Bool, true, false, cond, not, _&&_, and-false, true≢false, false≢true}
 use mathlib.Core.List.{List, [], _∷_}
 use mathlib.Core.Logic.{⊎-elim}
-use mathlib.Core.Path.{_≡_, refl, sym, _∙_}
+use mathlib.Core.Path.{_≡_, refl, sym, ap, _∙_}
 use native.Mathlib.Omega.{arith}
 use borrow.Author.Tests.{eqb-true, eq-eqb}
 use lib.Dec.{eqb}
 use lib.ListN.{length}
 use Rattle.lists.specs.Tests.{bit, countOf, keep}
-use Rattle.lists.proofs.Cases.{truth, by-test}
+use Rattle.lists.proofs.Cases.{truth, both, by-test}
 use Rattle.lists.proofs.Counting.{count-same}
-use Rattle.lists.proofs.Selecting.{count-off, keep-one}
+use Rattle.lists.proofs.Selecting.{count-off, keep-off, keep-all, keep-one}
 use Rattle.checksum.specs.Ones.{Bytes}
 use Rattle.packet.specs.declared.read.Flags.{Flags}
 use Rattle.servers.specs.declared.Server.{Server}
@@ -31,23 +31,23 @@ use Rattle.director.specs.declared.segment.Sender.{Sender}
 use Rattle.director.specs.declared.segment.Segment.{Segment}
 use Rattle.director.specs.declared.segment.Seen.{Seen}
 use Rattle.director.specs.declared.decide.Decision.{Decision}
-use Rattle.director.specs.State.{lent, Held}
+use Rattle.director.specs.State.{withServers, lent, Held}
 use Rattle.director.specs.Judge.{soundOf}
 use Rattle.director.specs.Segment.{segmentRead}
-use Rattle.director.specs.Decide.{opensBy, opens, belongs, decided}
-use Rattle.director.specs.Carry.{withServers, passed, carriedOut}
+use Rattle.director.specs.Decide.{opensBy, opens, belongs, renews, decided}
+use Rattle.director.specs.Carry.{passed, carriedOut}
 use Rattle.director.specs.Packets.{routed}
 use Rattle.director.proofs.Sound.{sound-parts}
 use Rattle.director.proofs.Segments.{read-from, no-flags}
 use Rattle.director.specs.Laws.{isIts}
-use Rattle.director.proofs.Decisions.{hasIts, Its, Grounded, opens-here, decided-grounded}
+use Rattle.director.proofs.Decisions.{hasIts, Its, Grounded, opens-here, renewing, decided-grounded}
 use Rattle.director.proofs.Carried.{its-slot}
-use Rattle.audit.specs.Book.{Entry, Book, ofClient, names, clockAccepted, entered, noteAnswer}
+use Rattle.audit.specs.Book.{Entry, Book, ofClient, names, newEntry, isRenewed, clockAccepted, entered, noteAnswer}
 use Rattle.audit.specs.Claim.{refused, isOpened, isEnded, mine, isStray, Passed}
 use Rattle.audit.proofs.Numbers.{numbers-agree, kept-other}
 use Rattle.audit.proofs.Slots.{entryOf, holds, client-holds, client-parts, count-its}
 use Rattle.audit.proofs.Passage.{read-same, goes}
-use Rattle.audit.proofs.Agreement.{Matches, bookAt, Agree, agreed, matches-opened, matches-kept, matches-ended}
+use Rattle.audit.proofs.Agreement.{Matches, bookAt, Agree, agreed, matches-opened, matches-kept, matches-ended, matches-renewed}
 
 -- 1. A packet that opens is no RST of TCP
 opens-no-rst : (protocol : ℕ) (f : Flags) (sender : Sender) → opensBy protocol f sender ≡ true → (eqb protocol 6 && f .rst) ≡ false
@@ -64,6 +64,12 @@ opens-no-rst protocol f Sender.Client e = by-flags (eqb protocol 6) (f .ack) (f 
 bit-none : (a : Bool) → eqb (bit a) 0 ≡ not a
 bit-none true = refl
 bit-none false = refl
+
+-- what is not both a client's and unfinished is struck where it is the client's
+finished : (client done : Bool) → (client && not done) ≡ false → not (client && done) ≡ not client
+finished false done e = refl
+finished true true e = refl
+finished true false e = absurd (true≢false e)
 
 -- 2. What is shown of a packet that got past 11; the idle entries of b are struck
 
@@ -142,13 +148,28 @@ module _ (d : Director) (row : List ℕ) (given : List Server) (es : List Entry)
         (counted (λ x. client x && named x) (λ x n. rw n) ∙ rw (its-client, eq-eqb (s .server .0) (s .server .0) refl)) in
         (e, only, eqb-true _ _ server)
 
+    -- where both have finished, an opening strikes that entry and no other
+    its-struck : renews m s ≡ true → keep (λ e. not (isRenewed m e)) es ≡ keep (λ e. not (ofClient (m .address) (m .port) e)) es
+    its-struck new =
+        let client = ofClient (m .address) (m .port) in
+        let (phase, syn) = both (eqb (s .phase) 4) (opens 6 m) new in
+        let unfinished : Entry → Bool = λ e. client e && not (e .clientDone && e .serverDone) in
+        let none : countOf unfinished es ≡ 0 = counted unfinished (λ e n. rw n) ∙ rw (its-client, eqb-true (s .phase) 4 phase) refl in
+        keep-off unfinished (λ e. not (isRenewed m e)) (λ e. not (client e)) (λ e n. rw syn (finished (client e) (e .clientDone && e .serverDone) n)) es none
+
   -- The client has none
-  none-mine : firstFrom (slotOfClient (m .address) (m .port)) 0 l ≡ Found.Nothing → countOf (mine m) es ≡ 0
-  none-mine none =
-      let client = ofClient (m .address) (m .port) in
-      let absent = sym (t .same client) ∙ sym (count-same (slotOfClient (m .address) (m .port)) (holds client) l (client-holds (m .address) (m .port)))
-      ∙ nothing-passes (slotOfClient (m .address) (m .port)) l 0 none in
-      count-off client (mine m) client (λ e n. rw n) es absent ∙ absent
+  module _ (none : firstFrom (slotOfClient (m .address) (m .port)) 0 l ≡ Found.Nothing) where
+    absent : countOf (ofClient (m .address) (m .port)) es ≡ 0
+    absent =
+        let client = ofClient (m .address) (m .port) in
+        sym (t .same client) ∙ sym (count-same (slotOfClient (m .address) (m .port)) (holds client) l (client-holds (m .address) (m .port)))
+        ∙ nothing-passes (slotOfClient (m .address) (m .port)) l 0 none
+
+    none-mine : countOf (mine m) es ≡ 0
+    none-mine = count-off (ofClient (m .address) (m .port)) (mine m) (ofClient (m .address) (m .port)) (λ e n. rw n) es absent ∙ absent
+
+    none-struck : keep (λ e. not (isRenewed m e)) es ≡ es
+    none-struck = keep-off (ofClient (m .address) (m .port)) (λ e. not (isRenewed m e)) (λ _. true) (λ e n. rw (n, and-false)) es absent ∙ keep-all es
 
   -- table and book agree on whether some connection is the packet's
   mine-found : (f : Found) → firstFrom (slotOfClient (m .address) (m .port)) 0 l ≡ f → countOf (mine m) es ≡ bit (isIts l m f)
@@ -191,9 +212,19 @@ module _ (d : Director) (row : List ℕ) (given : List Server) (es : List Entry)
       (matches-ended d l given es t m (k .0) (its .lowest .within) (its .lowest .passes) (slotAt row (k .0) .server .0)) refl refl
   by-decision (Decision.Open k i walk) new =
       passed-right i Change.Opened _ walk _ _
-      (matches-opened d l given es t m (k .0) (i .0) walk (new .lowest .within) (new .lowest .passes) (new .absent)) refl
-      (rw (new .opens, and-false)) (new .server) (opens-here protocol (m .flags) (m .sender) i (new .opens))
+      (matches-opened d l given es t m (k .0) (i .0) walk (new .opening .lowest .within) (new .opening .lowest .passes) (new .absent))
+      (ap (λ (x : List Entry). bookAt d given (newEntry m (i .0) (d .clock) ∷ x)) (none-struck (new .absent)))
+      (rw (new .opens, and-false)) (new .opening .server) (opens-here protocol (m .flags) (m .sender) i (new .opens))
       (sym (opens-no-rst protocol (m .flags) (m .sender) (new .opens))) (λ n. absurd (true≢false n))
+  by-decision (Decision.Renew old k i walk) new =
+      let low = new .its .lowest in
+      let (phase, opens, rst) = renewing protocol m (slotAt row (old .0)) (new .renews) in
+      passed-right i Change.Opened _ walk _ _
+      (matches-renewed d l given es t m (old .0) (low .within) (low .passes) (slotAt row (old .0) .server .0) (k .0) (i .0) walk
+      (new .opening .lowest .within) (new .opening .lowest .passes))
+      (ap (λ (x : List Entry). bookAt d given (newEntry m (i .0) (d .clock) ∷ x)) (its-struck (old .0) (low .within) (low .passes) (new .renews)))
+      (rw (opens, and-false)) (new .opening .server) (opens-here protocol (m .flags) (m .sender) i opens)
+      (sym (opens-no-rst protocol (m .flags) (m .sender) opens)) (λ n. absurd (true≢false n))
 
   pub routed-right : Routed way b p m (routed d (lent l p) m)
   unfolding routed

@@ -7,7 +7,7 @@ use borrow.Author.Tests.{ltb-true}
 use lib.Dec.{ltb}
 use lib.ListN.{getD}
 use Rattle.lists.specs.Fold.{foldBelow, allBelow}
-use Rattle.lists.specs.Tests.{countOf, allOf}
+use Rattle.lists.specs.Tests.{countOf, allOf, keep}
 use Rattle.lists.proofs.Cases.{both}
 use Rattle.checksum.specs.Ones.{Bytes}
 use Rattle.packet.specs.Reading.{broken, fragment, tcpMalformed, udpMalformed, readPacket}
@@ -68,10 +68,12 @@ calls-fit [] fits = tt
 calls-fit (c ∷ cs) fits = let (one, others) = both (callFits c) (allOf callFits cs) fits in (call-fits c one, calls-fit cs others)
 
 pub runs : Runs
-unfolding foldBelow allBelow countOf allOf broken fragment tcpMalformed udpMalformed readPacket ringFrom euclid gcdOf slots words firstFrom cleared loweredBy countsAre settingsJudged partsSound soundOf setupOf numberJudged weightOf countCallOf tickOf segmentRead decided routed packetHeld packetOf
+unfolding foldBelow allBelow countOf allOf keep broken fragment tcpMalformed udpMalformed readPacket ringFrom euclid gcdOf slots words firstFrom cleared loweredBy countsAre settingsJudged partsSound soundOf setupOf numberJudged weightOf countCallOf tickOf segmentRead decided routed packetHeld packetOf
 runs = record {
   premise = record { fits = call-fits first refl; all-fit = calls-fit rest refl; accepted = refl };
   tcp = refl;
+  renewal = refl;
+  renewed = record { row = refl; entries = λ b. refl };
   udp = refl;
   restart = refl;
   weighted = refl;

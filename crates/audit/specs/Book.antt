@@ -13,6 +13,7 @@ use Rattle.director.specs.declared.segment.Segment.{Segment}
 use Rattle.director.specs.declared.segment.Seen.{Seen}
 use Rattle.director.specs.State.{refusalNumber}
 use Rattle.director.specs.Segment.{segmentRead}
+use Rattle.director.specs.Decide.{opens}
 use Rattle.audit.specs.Calls.{Call, setUp, setWeight, count, tick, packet, Line}
 
 -- "An entry is a connection: client address and port, server number, which of the two have finished (sent FIN), last second." (SCOPE 9.3)
@@ -79,13 +80,18 @@ marked m now e = record {
   last = now;
 }
 
+-- the entry that an opening strikes: "for such a packet answered "opened", and no other, the client's entry, if both have finished" (SCOPE 9.7);
+-- such a packet is a client's "with SYN set and ACK, RST, FIN clear" (SCOPE 8.11), which opens in TCP, 6
+abbrev pub isRenewed : Segment → Entry → Bool
+isRenewed m e = opens 6 m && (ofClient (m .address) (m .port) e && (e .clientDone && e .serverDone))
+
 -- its client's entry changed, and no other
 abbrev pub onClient : Segment → (Entry → Entry) → Entry → Entry
 onClient m f e = cond (ofClient (m .address) (m .port) e) (f e) e
 
 -- an accepted packet, in a book that is at its clock
 abbrev pub entered : Book → Segment → ℕ → Change → Book
-entered b m k Change.Opened = withEntries b (newEntry m k (b .clock) ∷ b .entries)
+entered b m k Change.Opened = withEntries b (newEntry m k (b .clock) ∷ keep (λ e. not (isRenewed m e)) (b .entries))
 entered b m k Change.Kept = withEntries b (map (onClient m (marked m (b .clock))) (b .entries))
 entered b m k Change.Ended = withEntries b (keep (λ e. not (ofClient (m .address) (m .port) e)) (b .entries))
 

@@ -1,7 +1,7 @@
 -- Demand 1 (SCOPE 13.1): which refusal a call gives, exactly, and what a refused call leaves; of every state, row and packet, sound or not.
 -- Assumes nothing: these are definitions.
 use Prim.Native.Nat.{ℕ, _≤_}
-use mathlib.Core.Bool.{Bool, true, false, cond, not, _&&_}
+use mathlib.Core.Bool.{Bool, true, false, cond, not, _&&_, _||_}
 use mathlib.Core.List.{List, [], _∷_}
 use mathlib.Core.Path.{_≡_}
 use lib.Dec.{eqb, ltb}
@@ -27,7 +27,7 @@ use Rattle.director.specs.State.{lent, Result, refusalNumber}
 use Rattle.director.specs.Judge.{sizesRight, serviceRight, soundOf}
 use Rattle.director.specs.Tick.{settled, settledSlots}
 use Rattle.director.specs.Segment.{segmentRead}
-use Rattle.director.specs.Decide.{opens}
+use Rattle.director.specs.Decide.{opens, renews}
 use Rattle.director.specs.Laws.{isIts}
 use Rattle.audit.specs.Calls.{Call, setUp, setWeight, count, tick, packet, Fits, packetIn, State, called}
 
@@ -77,6 +77,11 @@ abbrev pub isPresent : Found → Bool
 isPresent Found.Nothing = false
 isPresent (Found.At k) = true
 
+-- given the lowest slot of a packet's client: does the packet renew the connection in it (SCOPE 8.11)?
+abbrev pub isRenewal : List Slot → Segment → Found → Bool
+isRenewal l m Found.Nothing = false
+isRenewal l m (Found.At k) = renews m (getD l (k .0) freeSlot)
+
 -- 12 to 14, in a state whose clock is stored and whose idle connections are gone; the lowest slot of the client is its connection's (SCOPE 6.7)
 abbrev pub routeTests : Director → List Slot → Segment → List Test
 routeTests d l m =
@@ -84,7 +89,7 @@ routeTests d l m =
     let wouldOpen = not (isPresent client) && opens (d .service .protocol) m in
     given 12 (not (isIts l m client) && not (opens (d .service .protocol) m))
     ∷ given 13 (wouldOpen && not (isPresent (firstFrom isUnused 0 l)))
-    ∷ given 14 (wouldOpen && noWeight (d .servers) (d .service .servers))
+    ∷ given 14 ((wouldOpen || isRenewal l m client) && noWeight (d .servers) (d .service .servers))
     ∷ []
 
 -- a packet that 6 to 10 refuse says nothing of a connection

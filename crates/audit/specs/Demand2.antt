@@ -1,9 +1,9 @@
 -- Demand 2 (SCOPE 13.2): who is picked, and what rewriting makes of a packet; of every packet call. Assumes nothing: these are definitions.
 use Prim.Native.Nat.{ℕ}
-use mathlib.Core.Bool.{Bool, false}
+use mathlib.Core.Bool.{Bool, false, cond}
 use mathlib.Core.List.{List}
 use mathlib.Core.Path.{_≡_}
-use lib.ListN.{take, drop}
+use lib.ListN.{getD, take, drop}
 use Rattle.checksum.specs.Ones.{Bytes}
 use Rattle.packet.specs.declared.read.Packet.{Packet}
 use Rattle.packet.specs.declared.read.Reading.{Reading}
@@ -13,7 +13,7 @@ use Rattle.packet.specs.Reading.{readPacket}
 use Rattle.packet.specs.Laws.{VerifiesExactly, LeavesFresh, Kept, SameUpToTotal, withSide}
 use Rattle.servers.specs.declared.Server.{Server}
 use Rattle.servers.specs.declared.ServerNo.{ServerNo}
-use Rattle.servers.specs.Servers.{serverAt}
+use Rattle.servers.specs.Servers.{serverAt, lowered}
 use Rattle.scheduler.specs.declared.least_loaded.Load.{Load}
 use Rattle.scheduler.specs.declared.walk.Place.{Place}
 use Rattle.scheduler.specs.declared.walk.Walk.{Walk}
@@ -21,13 +21,20 @@ use Rattle.scheduler.specs.Weights.{weightsGcd, largestOf}
 use Rattle.scheduler.specs.WeightedRoundRobin.{levelAt, reaches}
 use Rattle.scheduler.specs.Ring.{nextOf}
 use Rattle.scheduler.specs.Laws.{IsNext, IsFirst, IsLeast}
-use Rattle.table.specs.Slots.{slots}
+use Rattle.table.specs.declared.slot.Slot.{Slot}
+use Rattle.table.specs.declared.find.Found.{Found}
+use Rattle.table.specs.Slots.{slots, freeSlot}
+use Rattle.table.specs.Find.{ofClient, firstFrom}
 use Rattle.director.specs.declared.state.Director.{Director}
 use Rattle.director.specs.declared.state.Change.{Change}
 use Rattle.director.specs.declared.state.Answer.{Answer}
 use Rattle.director.specs.declared.state.Way.{Way}
+use Rattle.director.specs.declared.segment.Segment.{Segment}
+use Rattle.director.specs.declared.segment.Seen.{Seen}
 use Rattle.director.specs.State.{Result}
-use Rattle.director.specs.Tick.{settled}
+use Rattle.director.specs.Tick.{settled, settledSlots}
+use Rattle.director.specs.Segment.{segmentRead}
+use Rattle.director.specs.Decide.{renews}
 use Rattle.director.specs.Packets.{packetOf}
 use Rattle.audit.specs.Calls.{EndsFit}
 use Rattle.audit.specs.Claim.{isOpened}
@@ -87,14 +94,24 @@ opens (Answer.Number n) = false
 opens (Answer.Passed i change) = isOpened change
 opens (Answer.Refused why) = false
 
+-- given the lowest slot of a packet's client: the servers that the pick sees. "The pick sees the count after the old one is taken off" (SCOPE 8.12)
+abbrev pub atPick : Director → List Slot → Segment → Found → List Server
+atPick d l m Found.Nothing = d .servers
+atPick d l m (Found.At k) = let s = getD l (k .0) freeSlot in cond (renews m s) (lowered (d .servers) (s .server .0)) (d .servers)
+
+-- in a state d and its slots, with the clock stored and the idle connections removed
+abbrev pub seenByPick : Director → List Slot → Segment → List Server
+seenByPick d l m = atPick d l m (firstFrom (ofClient (m .address) (m .port)) 0 l)
+
 -- 3. The claim
 
 -- of the result r of a packet call in the state d and its row
 pub record ResultClaim (way : Way) (d : Director) (row p : List ℕ) (now : ℕ) (r : Result) : Type 0 where
   pub rewritten : (i : ServerNo) (change : Change) → r .answer ≡ Answer.Passed i change → Rewritten way d (i .0) p (r .lent .packet)
-  -- an opening goes to the pick, from the counts that are left once the idle connections are removed
-  pub picked : (i : ServerNo) → r .answer ≡ Answer.Passed i Change.Opened
-      → Published (d .service .scheduler) (settled d (slots row) now .servers) (d .service .servers) (d .walk) i (r .director .walk)
+  -- an opening goes to the pick, from the counts that are left once the idle connections and the one that the packet renews are removed
+  pub picked : (i : ServerNo) (m : Segment) → r .answer ≡ Answer.Passed i Change.Opened → segmentRead way (d .service) (d .servers) p ≡ Seen.Segment m
+      → let servers = seenByPick (settled d (slots row) now) (settledSlots d (slots row) now) m in
+      Published (d .service .scheduler) servers (d .service .servers) (d .walk) i (r .director .walk)
   -- "the walk moves in an opening only" (SCOPE 10.2)
   pub unmoved : opens (r .answer) ≡ false → r .director .walk ≡ d .walk
   -- bytes past the total length stay, whatever the answer (SCOPE 7.3)

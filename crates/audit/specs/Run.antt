@@ -1,14 +1,17 @@
 -- Runs of calls with what each answers and the counts after it, as one statement; one of them meets demand 3's premise. proofs/Run.antt proves it.
 -- Assumes nothing: these are definitions.
 use Prim.Native.Nat.{ℕ}
+use mathlib.Core.Bool.{false}
 use mathlib.Core.List.{List, [], _∷_, _++_, map}
 use mathlib.Core.Path.{_≡_}
 use Rattle.servers.specs.Servers.{countAt}
+use Rattle.table.specs.Slots.{words, freeSlot}
 use Rattle.director.specs.declared.state.Answer.{Answer}
 use Rattle.director.specs.declared.state.Way.{Way}
-use Rattle.audit.specs.Calls.{Call, setUp, setWeight, count, tick, packet, Fits, AllFit, State, called, next}
+use Rattle.audit.specs.Calls.{Call, setUp, setWeight, count, tick, packet, Fits, AllFit, State, called, next, after, recordOf}
+use Rattle.audit.specs.Book.{Entry, Book, bookOf}
 use Rattle.audit.specs.Cases.{Case, Hold, answered, done, number, opened, kept, ended, refused}
-use Rattle.audit.specs.Samples.{serviceOf, twoServers, unsound, bytes, ports, tcpPacket, fin, syn, rst, ack, finAck, synAck, fromClient, fromServer0, fromServer1, udpFromClient, udpFromServer0, udpFromServer1}
+use Rattle.audit.specs.Samples.{serviceOf, twoServers, unsound, connection, bytes, ports, tcpPacket, fin, syn, rst, ack, finAck, synAck, fromClient, fromServer0, fromServer1, udpFromClient, udpFromServer0, udpFromServer1}
 
 -- a call, what it answers, and the counts of servers 0 and 1 after it
 pub record Step : Type 0 where
@@ -19,6 +22,10 @@ pub record Step : Type 0 where
 
 abbrev pub step : Call → List ℕ → (count0 count1 : ℕ) → Step
 step call answer count0 count1 = record { call = call; answer = answer; count0 = count0; count1 = count1 }
+
+-- an entry of which none has finished
+abbrev pub entryOf : (address port server last : ℕ) → Entry
+entryOf address port server last = record { address = address; port = port; server = server; clientDone = false; serverDone = false; last = last }
 
 -- the calls in a row from a state on: what the rules give, beside what is printed
 abbrev pub told : State → List Step → List Case
@@ -75,14 +82,14 @@ drainSteps =
     ∷ step (packet Way.Inbound (tcpPacket 0x6EC5 0x0A000001 0xC000020A (ports 40000 5433) rst) 900) (refused 10) 1 0
     ∷ []
 
--- FIN from the client, twice, then from the server, then a SYN (SCOPE 8.11): the count falls 120 s after the last packet
+-- FIN from the client, twice, then from the server, then a SYN with ACK: the count falls 120 s after the last packet
 abbrev pub finSteps : List Step
 finSteps =
     step (fromClient 40000 fin 20) (kept 0) 1 0
     ∷ step (fromClient 40000 fin 21) (kept 0) 1 0
     ∷ step (count 0) (number 1) 1 0
     ∷ step (fromServer0 40000 finAck 22) (kept 0) 1 0
-    ∷ step (fromClient 40000 syn 30) (kept 0) 1 0
+    ∷ step (fromClient 40000 synAck 30) (kept 0) 1 0
     ∷ step (tick 149) (number 0) 1 0
     ∷ step (count 0) (number 1) 1 0
     ∷ step (tick 150) (number 1) 0 0
@@ -125,6 +132,53 @@ rest = map (λ (c : Step). c .call) afterFirst
 -- 15 can't come after a setup (SCOPE 6.8), so it comes before
 abbrev pub tcpRun : List Step
 tcpRun = step (count 0) (refused 15) 0 0 ∷ step first done 0 0 ∷ afterFirst
+
+-- Ports that come back (SCOPE 8.11 to 8.14): TCP, least-connection, in a row of three slots
+
+-- a SYN ends a connection that both have finished, and no other, and opens a new one
+abbrev pub renewingSteps : List Step
+renewingSteps =
+    step (setUp (serviceOf 6 3 2) (twoServers 1 0 1 0)) done 0 0
+    ∷ step (fromClient 40000 syn 10) (opened 0) 1 0
+    ∷ step (fromClient 40001 syn 10) (opened 1) 1 1
+    ∷ step (fromClient 40001 fin 11) (kept 1) 1 1
+    ∷ step (fromClient 40001 syn 11) (kept 1) 1 1
+    ∷ step (fromServer1 40001 finAck 12) (kept 1) 1 1
+    ∷ step (fromServer1 40001 syn 12) (kept 1) 1 1
+    ∷ step (fromClient 40001 synAck 12) (kept 1) 1 1
+    ∷ step (fromClient 40000 ack 13) (kept 0) 1 1
+    -- "The pick sees the count after the old one is taken off": 1 and 0
+    ∷ step (fromClient 40001 syn 13) (opened 1) 1 1
+    -- the new one is not thrown out after 120 idle seconds; the other is gone at 913, with slot 0
+    ∷ step (fromClient 40001 ack 912) (kept 1) 1 1
+    ∷ step (fromClient 40001 fin 913) (kept 1) 0 1
+    ∷ step (fromServer1 40001 finAck 914) (kept 1) 0 1
+    -- server 1 is drained: it reads zero, with no connection on it
+    ∷ step (setWeight 1 0) done 0 1
+    ∷ step (fromClient 40001 syn 915) (opened 0) 1 0
+    ∷ []
+
+-- "If all weights are 0 the answer is 14 and the old connection stays as it was": it goes 120 s after its own last packet
+abbrev pub weightlessSteps : List Step
+weightlessSteps =
+    step (fromClient 40001 fin 916) (kept 0) 1 0
+    ∷ step (fromServer0 40001 finAck 917) (kept 0) 1 0
+    ∷ step (setWeight 0 0) done 1 0
+    ∷ step (fromClient 40001 syn 918) (refused 14) 1 0
+    ∷ step (tick 1036) (number 0) 1 0
+    ∷ step (tick 1037) (number 1) 0 0
+    ∷ []
+
+abbrev pub renewalRun : List Step
+renewalRun = renewingSteps ++ weightlessSteps
+
+abbrev pub renewing : List Call
+renewing = map (λ (c : Step). c .call) renewingSteps
+
+-- what is left by then: "the old slot counts as free", and the lowest is 0; in the book one entry is struck, and one is added
+pub record Renewed : Type 0 where
+  pub row : after (unsound 15) renewing .row ≡ words (connection 1 40001 0 915 ∷ freeSlot ∷ freeSlot ∷ [])
+  pub entries : (b : Book) → bookOf b (recordOf (unsound 15) renewing) .entries ≡ entryOf 0x0A000001 40001 0 915 ∷ []
 
 -- UDP, least-connection, in a row of three slots
 
@@ -198,6 +252,8 @@ pub record Premise : Type 0 where
 pub record Runs : Type 0 where
   pub premise : Premise
   pub tcp : Hold (told (unsound 10) tcpRun)
+  pub renewal : Hold (told (unsound 15) renewalRun)
+  pub renewed : Renewed
   pub udp : Hold (told (unsound 15) udpRun)
   pub restart : Hold (told (unsound 25) restartRun)
   pub weighted : Hold (told (unsound 25) weightedRun)

@@ -55,6 +55,10 @@ noConnection protocol scheduler weight0 weight1 =
 abbrev pub oneConnection : (protocol phase : ℕ) → List Slot → State
 oneConnection protocol phase free = stateWith protocol (twoServers 1 1 1 0) (connection phase 40000 0 100 ∷ free)
 
+-- the same connection and no other slot, where every weight is 0
+abbrev pub weightless : (phase : ℕ) → State
+weightless phase = stateWith 6 (twoServers 0 1 0 0) (connection phase 40000 0 100 ∷ [])
+
 -- Packets
 
 -- the bytes of 32-bit words, highest byte first, so that packets read as in SCOPE
