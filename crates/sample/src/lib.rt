@@ -2,3 +2,4 @@
 pub mod begin;
 pub mod frame;
 pub mod print;
+pub mod send;

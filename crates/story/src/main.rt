@@ -1,14 +1,10 @@
 // A short story of one director: setup, three connections, a drain by weight 0, FIN both ways, an RST, idle time, and a count that reads zero.
 use director::control::count;
 use director::control::set_weight;
-use director::packets::inbound;
-use director::packets::outbound;
 use director::setup::set_up;
 use director::state::Director;
 use director::tick::tick;
-use sample::begin::CLIENT;
 use sample::begin::FIRST;
-use sample::begin::VIRTUAL;
 use sample::begin::blank;
 use sample::begin::replicas;
 use sample::begin::service;
@@ -16,21 +12,10 @@ use sample::frame::ACK;
 use sample::frame::FIN;
 use sample::frame::RST;
 use sample::frame::SYN;
-use sample::frame::tcp;
 use sample::print::told;
+use sample::send::from_client;
+use sample::send::from_server;
 use servers::ServerNo;
-
-// A packet of a client's port to the service.
-fn from_client(director: Director, row: &mut [u32], port: u16, flags: u8, clock: u32) -> Director {
-    let mut packet = tcp(CLIENT, port, VIRTUAL, 5432, flags);
-    told(inbound(director, row, &mut packet, clock))
-}
-
-// A packet of the first server to a client's port.
-fn from_first(director: Director, row: &mut [u32], port: u16, flags: u8, clock: u32) -> Director {
-    let mut packet = tcp(FIRST, 6432, CLIENT, port, flags);
-    told(outbound(director, row, &mut packet, clock))
-}
 
 // Setup over two servers.
 fn begin(row: &mut [u32]) -> Director {
@@ -63,7 +48,7 @@ fn drain(director: Director, row: &mut [u32]) -> Director {
 fn close(director: Director, row: &mut [u32]) -> Director {
     io::write_all(1, b"FIN both ways: a finished connection still counts\n");
     let d0 = from_client(director, row, 40001, FIN, 20);
-    from_first(d0, row, 40001, FIN, 21)
+    from_server(d0, row, FIRST, 40001, FIN, 21)
 }
 
 // An RST of the other client.

@@ -1,4 +1,7 @@
-// The examples that are not proved (SCOPE E1 to E4), and the published vectors of RFC 1071 and 1624, run.
+// The examples that are not proved (SCOPE E1 to E4), the published vectors of RFC 1071 and 1624, and renewals, run.
+mod renewal;
+
+use crate::renewal::renewals;
 use checksum::edit;
 use checksum::ones_sum;
 use director::control::set_weight;
@@ -42,7 +45,7 @@ fn opening(director: Director, row: &mut [u32], port: u16, words: u8, clock: u32
     told(inbound(director, row, &mut packet, clock))
 }
 
-// A state over one server, with a row of one slot.
+// A setup over one server.
 fn begin(row: &mut [u32]) -> Director {
     told(set_up(blank(), service(1), replicas(), row))
 }
@@ -95,4 +98,5 @@ fn main() {
     clocks();
     offsets();
     rows();
+    renewals();
 }

@@ -2,7 +2,7 @@
 
 use crate::data::*;
 use crate::segment::Flags;
-use crate::table::{self, FREE};
+use crate::table::{self, Slot, SlotNumber, FREE};
 
 /// "1 none has finished; 2 the client has sent FIN; 3 the server has; 4 both"
 pub const NONE_FINISHED: u32 = 1;
@@ -24,6 +24,12 @@ pub fn opens(flags: Option<Flags>) -> bool {
         None => true,
         Some(f) => f.syn && !f.ack && !f.rst && !f.fin,
     }
+}
+
+/// "an inbound packet with SYN set and ACK, RST, FIN clear that meets a connection in phase 4".
+/// A sound UDP connection is in phase 1.
+pub fn renews(phase: u32, flags: Option<Flags>) -> bool {
+    phase == BOTH_FINISHED && opens(flags)
 }
 
 /// "An inbound FIN moves 1 to 2 and 3 to 4"
@@ -61,6 +67,20 @@ pub fn idle_limit(protocol: u8, phase: u32) -> u32 {
     }
 }
 
+/// A connection put into a free slot, its server's count raised.
+pub fn put(state: &mut State, row: &mut [u32], number: SlotNumber, slot: Slot) {
+    table::write(row, number, slot);
+    state.servers[slot.server as usize].count += 1;
+}
+
+/// "the slot zeroed, the count lowered"; what stood there.
+pub fn take_off(state: &mut State, row: &mut [u32], number: SlotNumber) -> Slot {
+    let slot = table::read(row, number);
+    table::write(row, number, FREE);
+    state.servers[slot.server as usize].count -= 1;
+    slot
+}
+
 /// "Removed when clock less last-seen is at or above the limit." Counts on a sound state whose
 /// clock is already the new one; answers how many were removed.
 pub fn remove_idle(state: &mut State, row: &mut [u32]) -> u32 {
@@ -69,8 +89,7 @@ pub fn remove_idle(state: &mut State, row: &mut [u32]) -> u32 {
         let slot = table::read(row, number);
         let limit = idle_limit(state.service.protocol, slot.phase);
         if slot.is_used() && state.clock - slot.last_seen >= limit {
-            table::write(row, number, FREE);
-            state.servers[slot.server as usize].count -= 1;
+            take_off(state, row, number);
             removed += 1;
         }
     }

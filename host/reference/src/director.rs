@@ -9,7 +9,7 @@ use crate::scheduler;
 use crate::segment::{self, Flags, Segment};
 use crate::settings;
 use crate::soundness::is_sound;
-use crate::table::{self, Slot, SlotNumber, FREE};
+use crate::table::{self, Slot, SlotNumber};
 
 /// Setup: the present state isn't judged; refused, it stays as it was.
 pub fn set_up(
@@ -91,9 +91,14 @@ fn take_inbound(state: &mut State, row: &mut [u32], packet: &mut [u8], clock: u3
     }
     accept_clock(state, row, clock)?;
     let client = Client { address: header.source, port: segment.source };
+    let flags = segment.flags;
     let (server, change) = match table::find(row, client) {
-        Some(slot) => meet(state, row, slot, segment.flags, connection::phase_after_client),
-        None => open(state, row, client, segment.flags)?,
+        Some(slot) if connection::renews(table::read(row, slot).phase, flags) => {
+            renew(state, row, slot, client)?
+        }
+        Some(slot) => meet(state, row, slot, flags, connection::phase_after_client),
+        None if connection::opens(flags) => open(state, row, client)?,
+        None => return Err(refusal::NO_CONNECTION),
     };
     let picked = state.servers[server.0];
     rewrite::destination(packet, header, protocol, (picked.address, picked.port));
@@ -167,9 +172,7 @@ fn meet(
     let slot = table::read(row, number);
     let server = ServerNumber(slot.server as usize);
     if connection::has_rst(flags) {
-        // "the slot zeroed, the count lowered"
-        table::write(row, number, FREE);
-        state.servers[server.0].count -= 1;
+        connection::take_off(state, row, number);
         return (server, Change::Ended);
     }
     // "Every accepted packet sets last-seen."
@@ -178,11 +181,8 @@ fn meet(
     (server, Change::Kept)
 }
 
-/// A packet with no connection present: 12, 13, 14 in that order, or an opening.
-fn open(state: &mut State, row: &mut [u32], client: Client, flags: Option<Flags>) -> Taken {
-    if !connection::opens(flags) {
-        return Err(refusal::NO_CONNECTION);
-    }
+/// A packet that opens: 13, 14 in that order, or the opening. A refusal changes nothing.
+fn open(state: &mut State, row: &mut [u32], client: Client) -> Taken {
     let free = table::lowest_free(row).ok_or(refusal::TABLE_FULL)?;
     let (server, walk) = scheduler::pick(&state.service, state.used_servers(), state.walk)
         .ok_or(refusal::NO_WEIGHT)?;
@@ -193,9 +193,20 @@ fn open(state: &mut State, row: &mut [u32], client: Client, flags: Option<Flags>
         server: server.0 as u32,
         last_seen: state.clock,
     };
-    table::write(row, free, opened);
-    state.servers[server.0].count += 1;
+    connection::put(state, row, free, opened);
     // "the walk moves in an opening only"
     state.walk = walk;
     Ok((server, Change::Opened))
+}
+
+/// A packet that "ends [the old one] and opens a new one in the same call": "The pick sees the count
+/// after the old one is taken off, and the old slot counts as free."
+fn renew(state: &mut State, row: &mut [u32], number: SlotNumber, client: Client) -> Taken {
+    let old = connection::take_off(state, row, number);
+    let taken = open(state, row, client);
+    if taken.is_err() {
+        // "If all weights are 0 the answer is 14 and the old connection stays as it was."
+        connection::put(state, row, number, old);
+    }
+    taken
 }

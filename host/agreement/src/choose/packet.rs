@@ -3,6 +3,7 @@
 use super::{damage, sums};
 use crate::world::World;
 use random::Rng;
+use reference::connection::BOTH_FINISHED;
 use reference::data::UDP;
 use reference::packets::{self, End, Plan, ACK, FIN, RST, SYN};
 use reference::table::Slot;
@@ -18,12 +19,20 @@ pub fn used_slot(rng: &mut Rng, world: &World) -> Option<Slot> {
 
 pub fn inbound(rng: &mut Rng, world: &World) -> Vec<u8> {
     let service = &world.state.service;
-    let client = match used_slot(rng, world) {
-        Some(slot) if rng.permille(600) => (slot.address, slot.port as u16),
-        _ => some_client(rng, world),
+    let slot = used_slot(rng, world).filter(|_| rng.permille(600));
+    let client = match slot {
+        Some(slot) => (slot.address, slot.port as u16),
+        None => some_client(rng, world),
     };
-    let to = (service.address, service.port);
-    finished(rng, world, client, to, true)
+    let flags = match slot {
+        // the port comes back early
+        Some(slot) if slot.phase == BOTH_FINISHED && rng.permille(700) => {
+            rng.one_of(&[SYN, SYN, SYN, SYN, SYN, SYN, SYN | ACK, SYN | FIN])
+        }
+        _ => flags(rng),
+    };
+    let plan = shaped(rng, world, client, (service.address, service.port), flags);
+    finished(rng, plan, world, true)
 }
 
 pub fn outbound(rng: &mut Rng, world: &World) -> Vec<u8> {
@@ -36,7 +45,9 @@ pub fn outbound(rng: &mut Rng, world: &World) -> Vec<u8> {
         }
     }
     let from = world.state.servers[server];
-    finished(rng, world, (from.address, from.port), client, false)
+    let flags = flags(rng);
+    let plan = shaped(rng, world, (from.address, from.port), client, flags);
+    finished(rng, plan, world, false)
 }
 
 /// Few clients, so that they meet again; odd ones among them.
@@ -54,8 +65,7 @@ pub fn some_client(rng: &mut Rng, world: &World) -> End {
     }
 }
 
-fn finished(rng: &mut Rng, world: &World, source: End, to: End, inbound: bool) -> Vec<u8> {
-    let plan = shaped(rng, world, source, to);
+fn finished(rng: &mut Rng, plan: Plan, world: &World, inbound: bool) -> Vec<u8> {
     let mut bytes = match rng.permille(150) {
         true => damage::damaged(rng, plan, inbound),
         false => sums::aimed(rng, plan, world, inbound),
@@ -68,12 +78,12 @@ fn finished(rng: &mut Rng, world: &World, source: End, to: End, inbound: bool) -
     bytes
 }
 
-/// A right packet with random options, data, trailing bytes and flags.
-fn shaped(rng: &mut Rng, world: &World, source: End, destination: End) -> Plan {
+/// A right packet with random options, data and trailing bytes; the flags are for TCP.
+fn shaped(rng: &mut Rng, world: &World, source: End, destination: End, flags: u8) -> Plan {
     let udp = world.state.service.protocol == UDP;
     let mut plan = match udp {
         true => packets::udp(source, destination),
-        false => packets::tcp(source, destination, flags(rng)),
+        false => packets::tcp(source, destination, flags),
     };
     if rng.permille(250) {
         let length = rng.below(41);

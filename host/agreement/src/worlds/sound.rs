@@ -1,7 +1,6 @@
 //! Sound states and rows: any slots, two for one client among them, any walk in its range.
 
-use crate::choose::packet::some_client;
-use crate::choose::setup;
+use crate::choose::{packet, setup};
 use crate::world::World;
 use random::Rng;
 use reference::data::{ROUND_ROBIN, UDP, WEIGHTED_ROUND_ROBIN};
@@ -56,7 +55,11 @@ fn fill(rng: &mut Rng, world: &mut World) {
 }
 
 fn used_slot(rng: &mut Rng, world: &World, favoured: usize) -> Slot {
-    let (address, port) = some_client(rng, world);
+    let (address, port) = match packet::used_slot(rng, world) {
+        // a client's second slot
+        Some(slot) if rng.permille(200) => (slot.address, slot.port as u16),
+        _ => packet::some_client(rng, world),
+    };
     let phase = match world.state.service.protocol {
         UDP => 1,
         _ => rng.one_of(&[1, 1, 2, 3, 4, 4]),

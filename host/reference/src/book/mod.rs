@@ -63,6 +63,12 @@ pub struct Book {
     pub entries: Vec<Entry>,
 }
 
+impl Entry {
+    pub fn both_finished(&self) -> bool {
+        self.client_finished && self.server_finished
+    }
+}
+
 impl Book {
     pub fn new() -> Book {
         Book::default()
@@ -74,7 +80,7 @@ impl Book {
         let udp = self.settings.is_some_and(|s| s.service.protocol == UDP);
         let limit = if udp {
             300
-        } else if entry.client_finished && entry.server_finished {
+        } else if entry.both_finished() {
             120
         } else {
             900
@@ -115,15 +121,17 @@ impl Book {
         let clock = self.clock;
         let client = reading.client(way);
         match change {
-            // "adds an entry: its client, the answer's server, none finished, last second the
-            // clock"
-            Change::Opened => self.entries.push(Entry {
-                client,
-                server,
-                client_finished: false,
-                server_finished: false,
-                last: clock,
-            }),
+            Change::Opened => {
+                // "for such a packet answered "opened", and no other, its book strikes the client's
+                // entry, if both have finished, before it adds the new one"
+                if reading.could_renew(way) {
+                    self.entries.retain(|e| e.client != client || !e.both_finished());
+                }
+                // "its client, the answer's server, none finished, last second the clock"
+                let (client_finished, server_finished) = (false, false);
+                let last = clock;
+                self.entries.push(Entry { client, server, client_finished, server_finished, last });
+            }
             // "gets the clock as last second, and a TCP FIN marks its sender finished"
             Change::Kept => {
                 if let Some(entry) = self.entries.iter_mut().find(|e| e.client == client) {

@@ -36,8 +36,12 @@ impl Reading {
 
     /// "TCP inbound with SYN set and ACK, RST, FIN clear; any UDP inbound"
     pub fn could_open(&self, way: Way) -> bool {
-        let pure_syn = self.syn && !(self.ack || self.rst || self.fin);
-        way == Way::Inbound && (!self.tcp || pure_syn)
+        self.could_renew(way) || way == Way::Inbound && !self.tcp
+    }
+
+    /// "an inbound packet with SYN set and ACK, RST, FIN clear"
+    pub fn could_renew(&self, way: Way) -> bool {
+        way == Way::Inbound && self.syn && !(self.ack || self.rst || self.fin)
     }
 }
 

@@ -120,6 +120,58 @@ fn wrong_change() {
     assert!(!inbound(&mut set_up_book(TCP), SYN, 10, KEPT, [0, 0]), "kept without an entry");
 }
 
+/// A book whose one entry, of client 0 and server 0, both have finished at 20.
+fn finished_book() -> Book {
+    let mut book = open_book();
+    assert!(inbound(&mut book, FIN, 20, KEPT, [1, 0]));
+    assert!(outbound(&mut book, 0, FIN, 20, KEPT));
+    book
+}
+
+#[test]
+fn a_renewal_strikes_the_entry_and_adds_one() {
+    let mut book = finished_book();
+    assert!(inbound(&mut book, SYN, 30, OPENED, [1, 0]));
+    let entry = book.entries[0];
+    assert_eq!((entry.server, entry.both_finished(), entry.last), (0, false, 30));
+    assert!(tick(&mut book, 929, Answer::Number(0), [1, 0]));
+
+    let mut to_another = finished_book();
+    let came = client_plan(TCP, 0, SYN).build();
+    let left = packets::tcp(client(0), server_end(1), SYN).build();
+    let call = Call::Inbound { packet: &came, clock: 30 };
+    check(&mut to_another, call, Answer::Passed(1, Change::Opened), &left, &[0, 1]).unwrap();
+}
+
+#[test]
+fn only_a_finished_entry_is_struck() {
+    for finished in [None, Some(true), Some(false)] {
+        for counts in [[1, 0], [2, 0]] {
+            let mut book = open_book();
+            let fine = match finished {
+                None => true,
+                Some(true) => inbound(&mut book, FIN, 20, KEPT, [1, 0]),
+                Some(false) => outbound(&mut book, 0, FIN, 20, KEPT),
+            };
+            assert!(
+                fine && !inbound(&mut book, SYN, 30, OPENED, counts),
+                "{finished:?} {counts:?}"
+            );
+        }
+    }
+}
+
+#[test]
+fn only_such_a_packet_strikes() {
+    for flags in [ACK, SYN | ACK, SYN | FIN, 0] {
+        assert!(!inbound(&mut finished_book(), flags, 30, OPENED, [1, 0]), "flags {flags:02X}");
+    }
+    assert!(!outbound(&mut finished_book(), 0, SYN, 30, OPENED));
+    let mut refused = finished_book();
+    assert!(inbound(&mut refused, SYN, 30, Answer::Refused(14), [1, 0]));
+    assert_eq!((refused.entries, refused.clock), (finished_book().entries, 30));
+}
+
 #[test]
 fn wrong_server_and_wrong_journey() {
     let other = Answer::Passed(1, Change::Kept);

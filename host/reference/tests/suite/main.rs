@@ -8,6 +8,7 @@ mod idle;
 mod order;
 mod packet_refusals;
 mod random;
+mod renewal;
 mod rows;
 mod schedulers;
 mod setup;

@@ -15,7 +15,7 @@ pub fn effects(before: &Director, after: &Director, deed: &Deed, answer: Answer,
             assert_eq!(left, deed.packet());
             let ticked = ticked(before, *clock);
             assert_eq!(after, &ticked);
-            full_or_weightless(&ticked, answer);
+            full_or_weightless(&ticked, deed.packet(), answer);
         }
         (Answer::Refused(_), _) => {
             assert_eq!(left, deed.packet());
@@ -57,14 +57,28 @@ fn ticked(before: &Director, clock: u32) -> Director {
     ticked
 }
 
-fn full_or_weightless(ticked: &Director, answer: Answer) {
+fn full_or_weightless(ticked: &Director, packet: &[u8], answer: Answer) {
     let full = ticked.row.chunks(5).all(|slot| slot[0] != 0);
     let weightless = ticked.state.used_servers().iter().all(|server| server.weight == 0);
+    let port_at = usize::from(packet[0] & 15) * 4;
+    let (address, port) = (&packet[12..16], &packet[port_at..port_at + 2]);
+    let number = |bytes: &[u8]| bytes.iter().fold(0, |sum, &b| sum << 8 | u32::from(b));
+    let present = slot_of(ticked, number(address), number(port)).map(|slot| ticked.slot(slot)[0]);
     match answer {
-        Answer::Refused(13) => assert!(full),
-        Answer::Refused(14) => assert!(!full && weightless),
+        Answer::Refused(13) => assert!(full && present.is_none()),
+        Answer::Refused(14) => {
+            assert!(weightless);
+            // of a full table only the client's own finished connection gives a slot
+            assert!(present == Some(4) || present.is_none() && !full);
+        }
         _ => {}
     }
+}
+
+/// The lowest slot of a client.
+fn slot_of(director: &Director, address: u32, port: u32) -> Option<usize> {
+    let mut slots = director.row.chunks(5);
+    slots.position(|slot| slot[0] != 0 && slot[1..3] == [address, port])
 }
 
 /// Only one address, one port and two checksums may differ, and they must be right.
@@ -89,26 +103,21 @@ fn rewritten(came: &[u8], left: &[u8], address_at: usize, port_at: usize, end: (
     }
 }
 
-/// From the ticked director to the one after: exactly one slot differs, as the change says.
+/// From the ticked director to the one after: exactly one slot differs, as the change says; where a
+/// finished connection was opened anew, perhaps its old slot too.
 fn moved(ticked: &Director, after: &Director, server: u32, change: Change) {
     let mut want = ticked.clone();
     let slots = ticked.row.len() / 5;
-    let free = (0..slots).find(|&slot| ticked.slot(slot)[0] == 0);
     let touched = (0..slots).find(|&slot| ticked.slot(slot) != after.slot(slot));
     match (change, touched) {
         (Change::Opened, Some(slot)) => {
-            assert_eq!(touched, free);
             let words = after.slot(slot);
             assert_eq!((words[0], words[3], words[4]), (1, server, ticked.state.clock));
-            want.place(slot, words);
-            let (picked, walk) = pick(&ticked.state);
-            assert_eq!(picked, server as usize);
-            want.state.walk = walk;
+            open(&mut want, slot, words);
         }
         (Change::Ended, Some(slot)) => {
             assert_eq!(ticked.slot(slot)[3], server);
-            want.row[slot * 5..slot * 5 + 5].fill(0);
-            want.state.servers[server as usize].count -= 1;
+            end(&mut want, slot);
         }
         (Change::Kept, Some(slot)) => {
             assert_eq!(ticked.slot(slot)[3], server);
@@ -119,6 +128,24 @@ fn moved(ticked: &Director, after: &Director, server: u32, change: Change) {
         other => panic!("{other:?}"),
     }
     assert_eq!(after, &want);
+}
+
+fn end(director: &mut Director, slot: usize) {
+    director.state.servers[director.slot(slot)[3] as usize].count -= 1;
+    director.row[slot * 5..slot * 5 + 5].fill(0);
+}
+
+/// An opening into this slot, its client's finished connection ended before.
+fn open(director: &mut Director, slot: usize, words: [u32; 5]) {
+    if let Some(old) = slot_of(director, words[1], words[2]) {
+        assert_eq!(director.slot(old)[0], 4);
+        end(director, old);
+    }
+    assert_eq!(director.row.chunks(5).position(|slot| slot[0] == 0), Some(slot));
+    let (picked, walk) = pick(&director.state);
+    assert_eq!(picked, words[3] as usize);
+    director.place(slot, words);
+    director.state.walk = walk;
 }
 
 fn weighed(before: &Director, after: &Director, number: usize, weight: u16) {

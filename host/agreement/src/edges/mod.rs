@@ -1,5 +1,7 @@
 //! Which edges a run has met, so that a generator that has lost one is seen.
 
+mod renewal;
+
 use crate::call::{Call, Told};
 use crate::world::World;
 use nidhaaguf::Refusal;
@@ -110,7 +112,7 @@ impl Moment<'_> {
         Some(u16::from_be_bytes([bytes[at], bytes[at + 1]]))
     }
 
-    /// Client address and port of a packet that passed.
+    /// Client address and port of a packet that was not refused before 12.
     fn client(&self) -> (u32, u32) {
         let inbound = matches!(self.call, Call::Inbound { .. });
         let (address, port) = if inbound { (12, 0) } else { (16, 2) };
@@ -151,28 +153,38 @@ impl Moment<'_> {
     }
 }
 
+/// All edges, those of renewals last.
+fn all() -> impl Iterator<Item = &'static Edge> {
+    EDGES.iter().chain(&renewal::EDGES)
+}
+
 /// How often each edge was met.
 #[derive(Clone, Debug)]
 pub struct Edges {
-    met: [usize; EDGES.len()],
+    met: Vec<usize>,
 }
 
 impl Edges {
     pub fn new() -> Edges {
-        Edges { met: [0; EDGES.len()] }
+        Edges { met: vec![0; all().count()] }
     }
 
     pub fn add(&mut self, moment: &Moment) {
-        for (times, (_, is_met)) in self.met.iter_mut().zip(EDGES) {
+        for (times, (_, is_met)) in self.met.iter_mut().zip(all()) {
             *times += usize::from(is_met(moment));
         }
     }
 
+    /// The edges' names, each with how often it was met.
+    fn times(&self) -> impl Iterator<Item = (&'static str, usize)> + '_ {
+        all().zip(&self.met).map(|((name, _), &times)| (*name, times))
+    }
+
     /// Edges that were met less than so many times.
     pub fn missed(&self, least: usize) -> Vec<String> {
-        let all = EDGES.iter().zip(self.met);
-        all.filter(|(_, times)| *times < least)
-            .map(|((name, _), times)| format!("edge \"{name}\" met {times} times"))
+        self.times()
+            .filter(|&(_, times)| times < least)
+            .map(|(name, times)| format!("edge \"{name}\" met {times} times"))
             .collect()
     }
 }
@@ -185,7 +197,7 @@ impl Default for Edges {
 
 impl fmt::Display for Edges {
     fn fmt(&self, out: &mut fmt::Formatter<'_>) -> fmt::Result {
-        for ((name, _), times) in EDGES.iter().zip(self.met) {
+        for (name, times) in self.times() {
             writeln!(out, "{name:32}{times:>10}")?;
         }
         Ok(())

@@ -1,59 +1,9 @@
-//! Directors with a mistake: each must be found, its case shortened and replayed.
+//! Mistakes in counts, clocks and the walk, and in what is judged.
 
+use crate::support::{is_found, Mistaken};
 use agreement::call::{Call, Told};
-use agreement::report;
-use agreement::run::{calls_of, run};
-use agreement::shorten::{replay, shorten};
 use agreement::sides::{Reference, Side};
 use reference::{Server, State};
-
-/// What a call is handed and, once it is made, what it has left.
-struct Made<'a> {
-    call: &'a Call,
-    before: State,
-    state: &'a mut State,
-    row: &'a mut [u32],
-    packet: &'a mut [u8],
-}
-
-/// The reference with a mistake made after each call.
-struct Mistaken(fn(&mut Made, Told) -> Told);
-
-impl Side for Mistaken {
-    fn make(&self, call: &Call, state: &mut State, row: &mut [u32], packet: &mut [u8]) -> Told {
-        let before = *state;
-        let told = Reference.make(call, state, row, packet);
-        (self.0)(&mut Made { call, before, state, row, packet }, told)
-    }
-}
-
-impl Made<'_> {
-    fn header(&self) -> usize {
-        usize::from(self.packet[0] & 15) * 4
-    }
-
-    fn is_tcp(&self) -> bool {
-        self.before.service.protocol == 6
-    }
-
-    fn put_sum(&mut self, at: usize, wrong: [u8; 2], written: [u8; 2]) {
-        let at = self.header() + at;
-        if self.packet[at..at + 2] == wrong {
-            self.packet[at..at + 2].copy_from_slice(&written);
-        }
-    }
-}
-
-/// Runs it until the mistake is found; the shortened case must fail again when it is drawn anew.
-fn is_found(side: &dyn Side, most_calls: usize) -> String {
-    let failure = run(side, 1, 400_000).expect_err("the mistake was not found");
-    let all = (0..failure.calls.len()).collect();
-    let places = shorten(side, failure.kind, &failure.first, &failure.calls, all);
-    assert!(places.len() <= most_calls, "{}", report::failure(side, &failure));
-    let (kind, first, calls) = calls_of(failure.seed, failure.number);
-    assert_eq!(calls[..failure.calls.len()], failure.calls[..]);
-    replay(side, kind, &first, &calls, &places).expect("the shortened case doesn't fail")
-}
 
 #[test]
 fn a_count_lowered_on_fin() {
@@ -79,48 +29,7 @@ fn the_walk_moved_before_the_table_is_found_full() {
             }
             told
         }),
-        3,
-    );
-}
-
-#[test]
-fn udp_checksum_0_edited() {
-    is_found(
-        &Mistaken(|made, told| {
-            if told.change != 0 && !made.is_tcp() {
-                made.put_sum(6, [0, 0], [0xFF, 0xFF]);
-            }
-            told
-        }),
-        2,
-    );
-}
-
-#[test]
-fn rfc_1141_instead_of_1624() {
-    is_found(
-        &Mistaken(|made, told| {
-            if told.change != 0 && made.is_tcp() {
-                made.put_sum(16, [0, 0], [0xFF, 0xFF]);
-            }
-            told
-        }),
-        2,
-    );
-}
-
-#[test]
-fn a_byte_past_the_total_length_written() {
-    is_found(
-        &Mistaken(|made, told| {
-            let total = made.packet.get(3).map(|&low| usize::from(low));
-            if let (true, Some(past)) = (told.change != 0, made.packet.get_mut(total.unwrap_or(0)))
-            {
-                *past ^= 1;
-            }
-            told
-        }),
-        2,
+        4,
     );
 }
 
@@ -198,7 +107,7 @@ impl Side for LateTick {
 
 #[test]
 fn idle_a_second_too_late() {
-    is_found(&LateTick, 3);
+    is_found(&LateTick, 4);
 }
 
 /// Doesn't look past the last server.

@@ -1,0 +1,6 @@
+//! Directors with a mistake: each must be found, its case shortened and replayed.
+
+mod packets;
+mod renewal;
+mod state;
+mod support;
