@@ -69,6 +69,7 @@ module _ (way : Way) (p : List ℕ) (now : ℕ) where
   decision-tells d x m (Decision.Keep k) = refl
   decision-tells d x m (Decision.End k) = refl
   decision-tells d x m (Decision.Open k i walk) = refl
+  decision-tells d x m (Decision.Renew old k i walk) = refl
 
   clock-tells : (d : Director) (x : Lent (List Slot)) (m : Segment) (earlier : Bool) → Tells (packet way p now) (onClock d x m now earlier .answer)
   unfolding routed
