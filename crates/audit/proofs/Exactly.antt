@@ -169,21 +169,21 @@ module _ (d : Director) (row : List ℕ) (sound : Sound d row) (m : Segment) whe
     within = found-lowest (ofClient (m .address) (m .port)) l (k .0) found .within
 
     -- a slot is free then, and the weights are the same
-    by-free : renews m s ≡ true → (f : FoundSlot) → firstFrom isUnused 0 (freed l (k .0)) ≡ f
+    by-free : renews m (s .phase) ≡ true → (f : FoundSlot) → firstFrom isUnused 0 (freed l (k .0)) ≡ f
         → decisionNumber (onRoom ended (Decision.Renew k) f) ≡ cond none 14 0
     unfolding decisionNumber
     by-free renewed FoundSlot.Nothing e = absurd (freed-found l (k .0) within e)
     by-free renewed (FoundSlot.At j) e =
-        let used : isUnused s ≡ false = rw (renewing 6 m s renewed .0) in
+        let used : isUnused s ≡ false = rw (renewing 6 m (s .phase) renewed .0) in
         let same = count-in-range (d .servers) (d .service .servers) (s .server .0) (countAt (d .servers) (s .server .0) - 1) .0 in
         on-pick (Decision.Renew k j) (λ i walk. refl) (nextPick ended)
         ∙ rw (nobody ended (words (freed l (k .0))) (ended-parts d row sound (k .0) within used), same)
 
     on-present : (free : FoundSlot) → decisionNumber (onPresent d l m k s) ≡ routeNumber (FoundSlot.At k) free
     unfolding decisionNumber
-    on-present free = by-tests (belongs (m .sender) (s .server)) refl (renews m s) refl (m .flags .rst)
+    on-present free = by-tests (belongs (m .sender) (s .server)) refl (renews m (s .phase)) refl (m .flags .rst)
       where
-        by-tests : (here : Bool) → belongs (m .sender) (s .server) ≡ here → (renewed : Bool) → renews m s ≡ renewed → (rst : Bool)
+        by-tests : (here : Bool) → belongs (m .sender) (s .server) ≡ here → (renewed : Bool) → renews m (s .phase) ≡ renewed → (rst : Bool)
             → decisionNumber (cond here (cond renewed (onRenewal d l k) (onRst k rst)) (Decision.Refuse Refusal.NoConnection))
             ≡ cond (not here && not new) 12 (cond (renewed && none) 14 0)
         by-tests true e true r rst = by-free r (firstFrom isUnused 0 (freed l (k .0))) refl

@@ -149,7 +149,7 @@ module _ (d : Director) (row : List ℕ) (given : List Server) (es : List Entry)
         (e, only, eqb-true _ _ server)
 
     -- where both have finished, an opening strikes that entry and no other
-    its-struck : renews m s ≡ true → keep (λ e. not (isRenewed m e)) es ≡ keep (λ e. not (ofClient (m .address) (m .port) e)) es
+    its-struck : renews m (s .phase) ≡ true → keep (λ e. not (isRenewed m e)) es ≡ keep (λ e. not (ofClient (m .address) (m .port) e)) es
     its-struck new =
         let client = ofClient (m .address) (m .port) in
         let (phase, syn) = both (eqb (s .phase) 4) (opens 6 m) new in
@@ -218,7 +218,7 @@ module _ (d : Director) (row : List ℕ) (given : List Server) (es : List Entry)
       (sym (opens-no-rst protocol (m .flags) (m .sender) (new .opens))) (λ n. absurd (true≢false n))
   by-decision (Decision.Renew old k i walk) new =
       let low = new .its .lowest in
-      let (phase, opens, rst) = renewing protocol m (slotAt row (old .0)) (new .renews) in
+      let (phase, opens, rst) = renewing protocol m (slotAt row (old .0) .phase) (new .renews) in
       passed-right i Change.Opened _ walk _ _
       (matches-renewed d l given es t m (old .0) (low .within) (low .passes) (slotAt row (old .0) .server .0) (k .0) (i .0) walk
       (new .opening .lowest .within) (new .opening .lowest .passes))

@@ -80,8 +80,8 @@ marked m now e = record {
   last = now;
 }
 
--- the entry that an opening strikes: "for such a packet answered "opened", and no other, the client's entry, if both have finished" (SCOPE 9.7);
--- such a packet is a client's "with SYN set and ACK, RST, FIN clear" (SCOPE 8.11), which opens in TCP, 6
+-- the entry that a packet answered "opened" strikes: "for such a packet .., and no other, .. the client's entry, if both have finished" (SCOPE 9.21);
+-- such a packet is "with SYN set and ACK, RST, FIN clear" (SCOPE 8.16) and a client's: one that opens in TCP, 6
 abbrev pub isRenewed : Segment → Entry → Bool
 isRenewed m e = opens 6 m && (ofClient (m .address) (m .port) e && (e .clientDone && e .serverDone))
 

@@ -60,7 +60,7 @@ belongingCases =
     ∷ (packet Way.Inbound (tcpPacket 0x78C6 0x00000000 0xC000020A (ports 0 5432) syn) 100, 0)
     ∷ (packet Way.Outbound (tcpPacket 0x30CB 0x0A010005 0x00000000 (ports 6432 0) ack) 100, 12)
     ∷ [])
-    -- whatever its flags and phase; in phase 4 a SYN opens anew (SCOPE 8.11), and not 13 (SCOPE 8.14), with no other slot
+    -- whatever its flags and phase; in phase 4 a SYN opens anew (SCOPE 8.16), with no 13 (SCOPE 8.17), though there is no other slot
     ∷ each (λ flags. refusal (oneConnection 6 1 []) (fromClient 40000 flags 100)) ((0, 0) ∷ (fin, 0) ∷ (syn, 0) ∷ (rst, 0) ∷ [])
     ∷ each (λ flags. refusal (oneConnection 6 1 []) (fromServer0 40000 flags 100)) ((0, 0) ∷ (fin, 0) ∷ (syn, 0) ∷ (rst, 0) ∷ [])
     ∷ each (λ phase. refusal (oneConnection 6 phase []) (fromClient 40000 syn 100)) ((1, 0) ∷ (2, 0) ∷ (3, 0) ∷ (4, 0) ∷ [])
@@ -91,7 +91,7 @@ weightCases =
     ∷ each (λ scheduler. refusal (noConnection 6 scheduler 0 1) (fromClient 40000 syn 100)) ((1, 0) ∷ (2, 0) ∷ (3, 0) ∷ (4, 0) ∷ [])
     ∷ each (λ scheduler. refusal (noConnection 6 scheduler 1 0) (fromClient 40000 syn 100)) ((1, 0) ∷ (2, 0) ∷ (3, 0) ∷ (4, 0) ∷ [])
     ∷ each (λ scheduler. refusal (noConnection 17 scheduler 0 0) (udpFromClient 40000 100)) ((1, 14) ∷ (2, 14) ∷ (3, 14) ∷ (4, 14) ∷ [])
-    -- where its client's connection is in that phase, and there is no other slot (SCOPE 8.14); with each flag beside SYN; a server's
+    -- where its client's connection is in that phase, and there is no other slot (SCOPE 8.18); with each flag beside SYN; a server's
     ∷ each (λ phase. refusal (weightless phase) (fromClient 40000 syn 100)) ((1, 0) ∷ (2, 0) ∷ (3, 0) ∷ (4, 14) ∷ [])
     ∷ each (λ flags. refusal (weightless 4) (fromClient 40000 flags 100)) ((0x00, 0) ∷ (0x02, 14) ∷ (0x03, 0) ∷ (0x06, 0) ∷ (0x12, 0) ∷ (0x0A, 14) ∷ [])
     ∷ each (λ now. refusal (weightless 4) (fromClient 40000 syn now)) ((219, 14) ∷ (220, 14) ∷ [])

@@ -77,10 +77,10 @@ abbrev pub isPresent : Found → Bool
 isPresent Found.Nothing = false
 isPresent (Found.At k) = true
 
--- given the lowest slot of a packet's client: does the packet renew the connection in it (SCOPE 8.11)?
+-- given the lowest slot of a packet's client: does the packet renew the connection in it (SCOPE 8.16)?
 abbrev pub isRenewal : List Slot → Segment → Found → Bool
 isRenewal l m Found.Nothing = false
-isRenewal l m (Found.At k) = renews m (getD l (k .0) freeSlot)
+isRenewal l m (Found.At k) = renews m (getD l (k .0) freeSlot .phase)
 
 -- 12 to 14, in a state whose clock is stored and whose idle connections are gone; the lowest slot of the client is its connection's (SCOPE 6.7)
 abbrev pub routeTests : Director → List Slot → Segment → List Test

@@ -94,10 +94,10 @@ opens (Answer.Number n) = false
 opens (Answer.Passed i change) = isOpened change
 opens (Answer.Refused why) = false
 
--- given the lowest slot of a packet's client: the servers that the pick sees. "The pick sees the count after the old one is taken off" (SCOPE 8.12)
+-- given the lowest slot of a packet's client: the servers that the pick sees. "The pick sees the count after the old one is taken off" (SCOPE 8.17)
 abbrev pub atPick : Director → List Slot → Segment → Found → List Server
 atPick d l m Found.Nothing = d .servers
-atPick d l m (Found.At k) = let s = getD l (k .0) freeSlot in cond (renews m s) (lowered (d .servers) (s .server .0)) (d .servers)
+atPick d l m (Found.At k) = let s = getD l (k .0) freeSlot in cond (renews m (s .phase)) (lowered (d .servers) (s .server .0)) (d .servers)
 
 -- in a state d and its slots, with the clock stored and the idle connections removed
 abbrev pub seenByPick : Director → List Slot → Segment → List Server

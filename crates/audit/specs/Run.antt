@@ -133,7 +133,7 @@ rest = map (λ (c : Step). c .call) afterFirst
 abbrev pub tcpRun : List Step
 tcpRun = step (count 0) (refused 15) 0 0 ∷ step first done 0 0 ∷ afterFirst
 
--- Ports that come back (SCOPE 8.11 to 8.14): TCP, least-connection, in a row of three slots
+-- Ports that come back (SCOPE 8.16 to 8.18): TCP, least-connection, in a row of three slots
 
 -- a SYN ends a connection that both have finished, and no other, and opens a new one
 abbrev pub renewingSteps : List Step
@@ -147,7 +147,7 @@ renewingSteps =
     ∷ step (fromServer1 40001 syn 12) (kept 1) 1 1
     ∷ step (fromClient 40001 synAck 12) (kept 1) 1 1
     ∷ step (fromClient 40000 ack 13) (kept 0) 1 1
-    -- "The pick sees the count after the old one is taken off": 1 and 0
+    -- "The pick sees the count after the old one is taken off" (SCOPE 8.17): 1 and 0
     ∷ step (fromClient 40001 syn 13) (opened 1) 1 1
     -- the new one is not thrown out after 120 idle seconds; the other is gone at 913, with slot 0
     ∷ step (fromClient 40001 ack 912) (kept 1) 1 1
@@ -158,7 +158,7 @@ renewingSteps =
     ∷ step (fromClient 40001 syn 915) (opened 0) 1 0
     ∷ []
 
--- "If all weights are 0 the answer is 14 and the old connection stays as it was": it goes 120 s after its own last packet
+-- "If all weights are 0 the answer is 14 and the old connection stays as it was" (SCOPE 8.18): it goes 120 s after its own last packet
 abbrev pub weightlessSteps : List Step
 weightlessSteps =
     step (fromClient 40001 fin 916) (kept 0) 1 0
@@ -175,7 +175,7 @@ renewalRun = renewingSteps ++ weightlessSteps
 abbrev pub renewing : List Call
 renewing = map (λ (c : Step). c .call) renewingSteps
 
--- what is left by then: "the old slot counts as free", and the lowest is 0; in the book one entry is struck, and one is added
+-- what is left by then: "the old slot counts as free" (SCOPE 8.17), and the lowest is 0; in the book one entry is struck, and one is added
 pub record Renewed : Type 0 where
   pub row : after (unsound 15) renewing .row ≡ words (connection 1 40001 0 915 ∷ freeSlot ∷ freeSlot ∷ [])
   pub entries : (b : Book) → bookOf b (recordOf (unsound 15) renewing) .entries ≡ entryOf 0x0A000001 40001 0 915 ∷ []

@@ -71,7 +71,7 @@ pub record CanOpen (d : Director) (l : List Slot) (m : Segment) (k i : ℕ) (wal
 -- renewed: the packet is of the finished connection in slot old and opens; the opening is one in the state that the ending leaves
 pub record CanRenew (d : Director) (l : List Slot) (m : Segment) (old k i : ℕ) (walk : Walk) : Type 0 where
   pub its : Its l m old false
-  pub renews : renews m (getD l old freeSlot) ≡ true
+  pub renews : renews m (getD l old freeSlot .phase) ≡ true
   pub opening : Opening (withOneLess d (getD l old freeSlot .server .0)) (freed l old) k i walk
 
 abbrev pub Grounded : Director → List Slot → Segment → Decision → Type 0
@@ -101,11 +101,11 @@ syn-opens protocol f Sender.Client e =
     (by-test (λ b. b ≡ true) (eqb protocol 6) _ _ (λ _. e) (λ _. refl), not-true _ rst)
 syn-opens protocol f (Sender.Server i) e = absurd (false≢true e)
 
-pub renewing : (protocol : ℕ) (m : Segment) (s : Slot) → renews m s ≡ true → (s .phase ≡ 4) × (opens protocol m ≡ true) × (m .flags .rst ≡ false)
-renewing protocol m s e =
-    let (phase, new) = both (eqb (s .phase) 4) (opens 6 m) e in
+pub renewing : (protocol : ℕ) (m : Segment) (phase : ℕ) → renews m phase ≡ true → (phase ≡ 4) × (opens protocol m ≡ true) × (m .flags .rst ≡ false)
+renewing protocol m phase e =
+    let (last, new) = both (eqb phase 4) (opens 6 m) e in
     let (opens, rst) = syn-opens protocol (m .flags) (m .sender) new in
-    (eqb-true _ _ phase, opens, rst)
+    (eqb-true phase 4 last, opens, rst)
 
 -- 3. Room is asked for before a weight, and is there where a connection is renewed
 
@@ -182,13 +182,13 @@ module _ (d : Director) (row : List ℕ) (sound : Sound d row) (m : Segment) whe
       its rst flag = record { lowest = low; used = used; belongs = here; flag = flag }
 
       -- 13 can't arise: the old slot is free then
-      by-renewal : renews m s ≡ true → Goal (onRenewal d l k)
+      by-renewal : renews m (s .phase) ≡ true → Goal (onRenewal d l k)
       by-renewal new =
           rw (slots-words (freed l (k .0))) at
           (opening (withOneLess d (s .server .0)) (words (freed l (k .0))) (ended-parts d row sound (k .0) (low .within) used) Goal (Decision.Renew k)
           (record { keeps = refl; stray = rw (found, here) })
           (λ none. absurd (freed-found l (k .0) (low .within) (rw (slots-words (freed l (k .0))) at none)))
-          (λ j i walk o. record { its = its false (renewing protocol m s new .2); renews = new; opening = rw (slots-words (freed l (k .0))) at o }))
+          (λ j i walk o. record { its = its false (renewing protocol m (s .phase) new .2); renews = new; opening = rw (slots-words (freed l (k .0))) at o }))
 
       by-rst : (rst : Bool) → m .flags .rst ≡ rst → Goal (onRst k rst)
       by-rst true flag = its true flag
@@ -197,7 +197,7 @@ module _ (d : Director) (row : List ℕ) (sound : Sound d row) (m : Segment) whe
     by-present : Goal (onPresent d l m k s)
     by-present =
         by-test Goal (belongs (m .sender) (s .server)) _ _
-        (λ here. by-test Goal (renews m s) _ _ (by-renewal here) (λ old. by-rst here (m .flags .rst) refl))
+        (λ here. by-test Goal (renews m (s .phase)) _ _ (by-renewal here) (λ old. by-rst here (m .flags .rst) refl))
         (λ away. record { keeps = refl; stray = rw (found, away, others-open-none protocol (m .flags) (m .sender) (s .server) away) })
 
   -- the client has none

@@ -1,6 +1,6 @@
 -- The laws of specs/Laws.antt: over every set of flags and every refusal; the tables by computation. Those of the order are proved beside the
 -- calls that they are about. Assumes nothing.
-use Prim.Native.Nat.{_-_}
+use Prim.Native.Nat.{ℕ, _-_}
 use mathlib.Core.Bool.{Bool, true, false, and-false, false≢true}
 use mathlib.Core.Path.{_≡_, refl}
 use borrow.Author.Tests.{eqb-true}
@@ -10,7 +10,6 @@ use Rattle.lists.proofs.Cases.{both}
 use Rattle.lists.specs.Tests.{keep}
 use Rattle.packet.specs.declared.read.Fault.{Fault}
 use Rattle.packet.specs.declared.read.Flags.{Flags}
-use Rattle.table.specs.declared.slot.Slot.{Slot}
 use Rattle.director.specs.declared.state.Refusal.{Refusal}
 use Rattle.director.specs.declared.segment.Sender.{Sender}
 use Rattle.director.specs.declared.segment.Segment.{Segment}
@@ -32,10 +31,10 @@ alone syn false false true e = absurd (false≢true e)
 alone false false false false e = absurd (false≢true e)
 alone true false false false e = refl
 
-finished : (m : Segment) (s : Slot) → m .sender ≡ Sender.Client → renews m s ≡ true → (s .phase ≡ 4) × (m .flags ≡ synAlone)
-finished m s client e =
-    let (phase, syn) = both (eqb (s .phase) 4) (opens 6 m) e in
-    (eqb-true _ _ phase, alone (m .flags .syn) (m .flags .ack) (m .flags .rst) (m .flags .fin) (rw client at syn))
+finished : (m : Segment) (phase : ℕ) → m .sender ≡ Sender.Client → renews m phase ≡ true → (phase ≡ 4) × (m .flags ≡ synAlone)
+finished m phase client e =
+    let (last, syn) = both (eqb phase 4) (opens 6 m) e in
+    (eqb-true _ _ last, alone (m .flags .syn) (m .flags .ack) (m .flags .rst) (m .flags .fin) (rw client at syn))
 
 named : (why : Refusal) → getD refusals (refusalNumber why - 1) Refusal.Size ≡ why
 named Refusal.Size = refl
@@ -60,8 +59,8 @@ laws = record {
   opens-tcp = λ m client. rw client (λ e. alone (m .flags .syn) (m .flags .ack) (m .flags .rst) (m .flags .fin) e, λ q. rw q);
   opens-udp = λ m client. rw client;
   opens-none = λ protocol m i server. rw server;
-  renews-finished = λ m s client. (λ e. finished m s client e, λ q. rw (q .0, q .1, client));
-  renews-none = λ m s i server. rw (server, and-false);
+  renews-finished = λ m phase client. (λ e. finished m phase client e, λ q. rw (q .0, q .1, client));
+  renews-none = λ m phase i server. rw (server, and-false);
   fin-inbound = refl;
   fin-outbound = λ i. refl;
   fin-clear = λ sender. refl;

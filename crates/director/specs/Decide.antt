@@ -57,11 +57,11 @@ onRoom d make (Found.At k) = onPick (make k) (nextPick d)
 abbrev pub onAbsent : Director → List Slot → Segment → Decision
 onAbsent d l m = cond (opens (d .service .protocol) m) (onRoom d Decision.Open (firstFrom isUnused 0 l)) (Decision.Refuse Refusal.NoConnection)
 
--- "An inbound packet with SYN set and ACK, RST, FIN clear that meets a connection in phase 4" (SCOPE 8.11); 6 is TCP, as UDP is never in phase 4
-abbrev pub renews : Segment → Slot → Bool
-renews m s = eqb (s .phase) 4 && opens 6 m
+-- "An inbound packet with SYN set and ACK, RST, FIN clear that meets a connection in phase 4" (SCOPE 8.16); 6 is TCP, as UDP is never in phase 4
+abbrev pub renews : Segment → (phase : ℕ) → Bool
+renews m phase = eqb phase 4 && opens 6 m
 
--- it "ends it and opens a new one in the same call" (SCOPE 8.11): an opening in the state that the ending of the connection in slot k leaves
+-- it "ends it and opens a new one in the same call" (SCOPE 8.16): an opening in the state that the ending of the connection in slot k leaves
 abbrev pub onRenewal : Director → List Slot → SlotNo → Decision
 onRenewal d l k = onRoom (withOneLess d (getD l (k .0) freeSlot .server .0)) (Decision.Renew k) (firstFrom isUnused 0 (freed l (k .0)))
 
@@ -73,7 +73,7 @@ onRst k false = Decision.Keep k
 -- a packet whose client has a connection, s in slot k: does it belong to it, and if so, does it renew it?
 abbrev pub onPresent : Director → List Slot → Segment → SlotNo → Slot → Decision
 onPresent d l m k s =
-    cond (belongs (m .sender) (s .server)) (cond (renews m s) (onRenewal d l k) (onRst k (m .flags .rst))) (Decision.Refuse Refusal.NoConnection)
+    cond (belongs (m .sender) (s .server)) (cond (renews m (s .phase)) (onRenewal d l k) (onRst k (m .flags .rst))) (Decision.Refuse Refusal.NoConnection)
 
 -- has the packet's client a connection?
 abbrev pub onClient : Director → List Slot → Segment → Found → Decision

@@ -82,11 +82,11 @@ FullFirst =
     (d : Director) (l : List Slot) (m : Segment) → firstFrom (ofClient (m .address) (m .port)) 0 l ≡ Found.Nothing
     → opens (d .service .protocol) m ≡ true → firstFrom isUnused 0 l ≡ Found.Nothing → decided d l m ≡ Decision.Refuse Refusal.TableFull
 
--- "13 can't arise here." (SCOPE 8.14): a packet that renews its client's connection, in slot k
+-- "13 can't arise here." (SCOPE 8.17): a packet that renews its client's connection, in slot k
 abbrev pub NeverFull : Type 0
 NeverFull =
     (d : Director) (l : List Slot) (m : Segment) (k : SlotNo) → firstFrom (ofClient (m .address) (m .port)) 0 l ≡ Found.At k
-    → renews m (getD l (k .0) freeSlot) ≡ true → decided d l m ≡ Decision.Refuse Refusal.TableFull → ⊥
+    → renews m (getD l (k .0) freeSlot .phase) ≡ true → decided d l m ≡ Decision.Refuse Refusal.TableFull → ⊥
 
 pub record Laws : Type 0 where
   -- a client's packet of TCP (6) opens with these flags and no others; "any UDP inbound" (SCOPE 8.3), which is 17
@@ -94,9 +94,9 @@ pub record Laws : Type 0 where
   pub opens-udp : (m : Segment) → m .sender ≡ Sender.Client → opens 17 m ≡ true
   -- "Outbound packets open nothing." (SCOPE 8.5)
   pub opens-none : (protocol : ℕ) (m : Segment) (i : ServerNo) → m .sender ≡ Sender.Server i → opens protocol m ≡ false
-  -- with these flags and no others it renews, a connection in phase 4 (SCOPE 8.11)
-  pub renews-finished : (m : Segment) (s : Slot) → m .sender ≡ Sender.Client → (renews m s ≡ true) ↔ ((s .phase ≡ 4) × (m .flags ≡ synAlone))
-  pub renews-none : (m : Segment) (s : Slot) (i : ServerNo) → m .sender ≡ Sender.Server i → renews m s ≡ false
+  -- with these flags and no others it renews, a connection in phase 4 (SCOPE 8.16)
+  pub renews-finished : (m : Segment) (phase : ℕ) → m .sender ≡ Sender.Client → (renews m phase ≡ true) ↔ ((phase ≡ 4) × (m .flags ≡ synAlone))
+  pub renews-none : (m : Segment) (phase : ℕ) (i : ServerNo) → m .sender ≡ Sender.Server i → renews m phase ≡ false
   -- "An inbound FIN moves 1 to 2 and 3 to 4; outbound moves 1 to 3 and 2 to 4." (SCOPE 8.7) Without FIN a phase stays.
   pub fin-inbound : phasesBy true Sender.Client ≡ 2 ∷ 2 ∷ 4 ∷ 4 ∷ []
   pub fin-outbound : (i : ServerNo) → phasesBy true (Sender.Server i) ≡ 3 ∷ 4 ∷ 3 ∷ 4 ∷ []

@@ -18,13 +18,12 @@ use table::slot::server_no_at;
 use table::slot::slot_at;
 ghost use mathlib.Core.Path.{_≡_};
 ghost use Prim.Native.Nat.{_<_, _≤_, _/_};
-ghost use lib.Dec.{eqb};
 ghost use lib.ListN.{length};
 ghost use Rattle.servers.specs.Servers.{countAt};
 ghost use Rattle.table.specs.Slots.{wordsPerSlot, slots, slotAt};
-ghost use mathlib.Core.Bool.{true, _&&_};
+ghost use mathlib.Core.Bool.{true};
 ghost use Rattle.director.specs.Judge.{soundOf};
-ghost use Rattle.director.specs.Decide.{isSyn, opens, belongs, nextPick, onPick, onRenewal, onPresent, onAbsent, decided};
+ghost use Rattle.director.specs.Decide.{isSyn, opens, belongs, nextPick, onPick, renews, onRenewal, onPresent, onAbsent, decided};
 ghost use Rattle.director.specs.declared.decide.Decision.{Decision};
 
 // What is to become of a packet: its refusal, or its connection's slot and, where one opens, the server and the walk after the pick; where
@@ -81,7 +80,7 @@ fn belongs_to(sender: Sender, no: ServerNo) -> bool
 
 // Whether a packet ends a connection in that phase and opens a new one: TCP's 4 and an opening (UDP is never in phase 4).
 fn renews_connection(segment: Segment, phase: u32) -> bool
-    ensures { λ r. ⌜ r ≡ eqb phase 4 && opens 6 segment ⌝ }
+    ensures { λ r. ⌜ r ≡ renews segment phase ⌝ }
 {
     match phase {
         4 => opens_connection(6, segment),

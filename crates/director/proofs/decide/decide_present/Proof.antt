@@ -21,7 +21,7 @@ use Rattle.director.proofs.Decisions.{renewing}
 use Rattle.director.proofs.decide.decide_present.Statement.{statement}
 use Rattle.director.proofs.decide.decide_present.Tie as tie
 
-renewed : (d : Director) (l : List Slot) (m : Segment) (k : SlotNo) (s t : Slot) → t ≡ s → belongs (m .sender) (t .server) ≡ true → renews m t ≡ true
+renewed : (d : Director) (l : List Slot) (m : Segment) (k : SlotNo) (s t : Slot) → t ≡ s → belongs (m .sender) (t .server) ≡ true → renews m (t .phase) ≡ true
     → onPresent d l m k s ≡ onRenewal d l k
 renewed d l m k s t same here new = rw (← same, here, new)
 
@@ -33,8 +33,8 @@ decide-renewal-requires c κs =
     let a = c .before .before .before .before .before .before in
     let row = now (a .args .row) in
     let k = a .args .k .0 in
-    let new : renews (a .args .segment) (slotAt row k) ≡ true = rw (← (c .before .before .before .before .slot-at .ensures)) (sym (c .before .renews-connection .ensures) ∙ c .if2 .taken) in
-    let phase = renewing 6 (a .args .segment) (slotAt row k) new .0 in
+    let new : renews (a .args .segment) (slotAt row k .phase) ≡ true = rw (← (c .before .before .before .before .slot-at .ensures)) (sym (c .before .renews-connection .ensures) ∙ c .if2 .taken) in
+    let phase = renewing 6 (a .args .segment) (slotAt row k .phase) new .0 in
     let used : isUnused (slotAt row k) ≡ false = ap (λ p. eqb p 0) phase in
     (a .pre .1, counted (a .args .director) row (sound-parts (a .args .director) row (a .pre .0)) k (omega (arith, length-slots row)) used .1)
 
