@@ -169,6 +169,8 @@ NidhaagufAnswer nidhaaguf_tick(NidhaagufState state, uint32_t *row, size_t row_l
 /*
  * Takes a packet from a client. Accepted, the packet is rewritten in place for server `number`, with its checksums, and
  * is to be sent there; `change` says what became of its connection. Refused, the packet is as it was.
+ * A TCP SYN without ACK, RST and FIN opens a connection, also where its client has one that both sides have finished: that
+ * one ends in the same call (SCOPE 8.16). On any other connection it is a packet like others (SCOPE 8.11).
  * Refusals 15, 6 to 14.
  */
 NidhaagufAnswer nidhaaguf_inbound(NidhaagufState state, uint32_t *row, size_t row_length,

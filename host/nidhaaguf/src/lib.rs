@@ -7,6 +7,7 @@
 //!
 //! - [`inbound`](Director::inbound): a packet from a client. The first of a connection (a TCP SYN, or any UDP packet)
 //!   picks a server by the [`Scheduler`] and later ones go to the same. The packet's destination becomes the server.
+//!   A SYN of a client whose last connection both sides have finished is the first of a new one.
 //! - [`outbound`](Director::outbound): a server's packet back. Its source becomes the virtual address and port.
 //! - [`tick`](Director::tick): time passes, and idle connections are removed. Packets do the same.
 //! - [`set_weight`](Director::set_weight) and [`count`](Director::count): drain a server by setting its weight to 0, and
