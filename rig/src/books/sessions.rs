@@ -24,7 +24,8 @@ struct Last {
     after: u32,
 }
 
-/// Connections that come and go all the time and aren't known one by one.
+/// Connections that come and go all the time and aren't known one by one. None is from the port of an entry: the client's kernel
+/// keeps a closed port back for a minute, unless it is told otherwise.
 #[derive(Clone, Debug)]
 struct Crowd {
     servers: Vec<usize>,

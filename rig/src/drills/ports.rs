@@ -30,7 +30,7 @@ const NEVER_AGAIN: &str = "10s";
 /// For how long a session says nothing, in seconds of the director's clock: longer than a finished connection counts.
 const SILENCE: u32 = FINISHED + 20;
 /// Fewer packets than leave the director in any run.
-const LEAST_PACKETS: usize = 500;
+const LEAST_PACKETS: usize = 300;
 
 /// How the drill takes its time. A port comes back in one or two seconds, and has to within 120 s of the director's clock.
 #[derive(Clone, Copy, Debug)]
@@ -208,9 +208,10 @@ impl Drill<'_> {
         }
         let clock = self.service.end_all()?;
         self.tell(format!("every replica reads 0 at clock {clock}, none too early or too late"));
-        self.service.check_openings()?;
+        let openings = self.service.check_openings()?;
         let (timeline, returned) = (self.timeline, self.returned);
         let (books, captured) = self.service.finish(LEAST_PACKETS)?;
+        timeline.tell(openings);
         let verdict = books.observation.hold_against(&captured.device, timeline)?;
         let early = verdict.book.renewals();
         let words = format!("{returned} sessions were from a port that came back, {early} of them while its finished connection counted");

@@ -46,9 +46,10 @@ impl Drill<'_> {
         let payments = self.check_payments()?;
         let clock = self.service.end_all()?;
         self.tell(format!("every replica reads 0 at clock {clock}, none too early or too late"));
-        self.service.check_openings()?;
+        let openings = self.service.check_openings()?;
         let (timeline, statements) = (self.timeline, self.service.statements);
         self.service.finish(LEAST_PACKETS)?;
+        timeline.tell(openings);
         timeline.tell(format!(
             "{statements} statements, each answered by the replica of its session; {payments} payments, none lost"
         ));

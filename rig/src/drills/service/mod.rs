@@ -182,16 +182,12 @@ impl<'a, B: Book> Service<'a, B> {
         self.replicas.iter().map(|replica| Ok(replica.connections()?.len())).collect()
     }
 
-    /// The director must have opened as many connections as the replicas have received, by their logs.
-    pub fn check_openings(&self) -> Result<(), Failure> {
+    /// The director must have opened as many connections as the replicas have received, by their logs. Gives the words for it.
+    pub fn check_openings(&self) -> Result<String, Failure> {
         let (opened, logged) = (self.director.openings()?, self.connections()?.iter().sum());
-        let words =
-            format!("the director opened {opened} connections, the replicas' logs tell {logged}");
-        ensure(opened == logged, words)?;
-        let words =
-            format!("the director opened {opened} connections, as many as the replicas' logs tell");
-        self.timeline.tell(words);
-        Ok(())
+        let words = format!("the director opened {opened} connections");
+        ensure(opened == logged, format!("{words}, the replicas' logs tell {logged}"))?;
+        Ok(format!("{words}, as many as the replicas' logs tell"))
     }
 
     /// Ends all. Every checksum that left must be right, and at least so many packets must have left.
