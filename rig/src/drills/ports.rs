@@ -9,12 +9,11 @@ use crate::books::both::Both;
 use crate::books::observation::Observation;
 use crate::books::sessions::SessionBook;
 use crate::books::FINISHED;
-use crate::lab::network::{gateway, server, DIRECTOR};
 use crate::lab::status::Status;
-use crate::lab::{ensure, Failure, Lab, REPLICAS};
+use crate::lab::{ensure, network, Failure, Lab, REPLICAS};
 use crate::load::payments::Client;
 use crate::timeline::Timeline;
-use programs::{IP, SYSCTL};
+use programs::SYSCTL;
 
 /// The replica that is drained.
 const DRAINED: usize = 0;
@@ -24,9 +23,6 @@ const EACH: usize = 2;
 const PORTS: [u16; 2] = [40000, 40000 + (EACH * REPLICAS) as u16 - 1];
 /// As application servers are often set up: a port may be used again a second after its connection was closed.
 const REUSE: &str = "net.ipv4.tcp_tw_reuse=1";
-/// TCP sends nothing again before this time. On a busy machine a FIN that is sent again after the usual 0.2 s can find its receiver
-/// closed, and is answered by an RST: then the connection is gone, and no port comes back early.
-const NEVER_AGAIN: &str = "10s";
 /// For how long a session says nothing, in seconds of the director's clock: longer than a finished connection counts.
 const SILENCE: u32 = FINISHED + 20;
 /// Fewer packets than leave the director in any run.
@@ -55,8 +51,10 @@ pub fn run(lab: &Lab, timeline: &Timeline, pace: Pace) -> Result<(), Failure> {
         sessions: SessionBook::default(),
         observation: Observation::begin(director, pace.clock_speed),
     })?;
-    set_up_network(lab)?;
+    network::send_once(lab, REPLICAS)?;
     let [first, last] = PORTS;
+    let ports = format!("net.ipv4.ip_local_port_range={first} {last}");
+    lab.output("client", SYSCTL, &["-q", "-w", REUSE, &ports])?;
     timeline.tell(format!(
         "the client has the ports {first} to {last}, and may use one again after a second"
     ));
@@ -69,22 +67,6 @@ pub fn run(lab: &Lab, timeline: &Timeline, pace: Pace) -> Result<(), Failure> {
     drill.empty(&before)?;
     drill.unplug(pace.rounds)?;
     drill.close()
-}
-
-/// The client's ports, and how late each side's TCP sends anything again.
-fn set_up_network(lab: &Lab) -> Result<(), Failure> {
-    let [first, last] = PORTS;
-    let ports = format!("net.ipv4.ip_local_port_range={first} {last}");
-    lab.output("client", SYSCTL, &["-q", "-w", REUSE, &ports])?;
-    let servers = (0..REPLICAS).map(|k| (server(k), gateway(k)));
-    for (name, via) in servers.chain([("client".into(), DIRECTOR.into())]) {
-        lab.output(
-            &name,
-            IP,
-            &["route", "change", "default", "via", &via, "rto_min", NEVER_AGAIN],
-        )?;
-    }
-    Ok(())
 }
 
 struct Drill<'a> {
