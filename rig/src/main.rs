@@ -1,18 +1,19 @@
 //! Runs a drill in the laboratory that `rig/drill` has made.
 
-use rig::drills::drain::{self, Pace};
-use rig::drills::{compare, death, impaired};
+use rig::drills::{compare, death, drain, impaired, ports};
 use rig::lab::{fail, Failure, Lab};
 use rig::timeline::Timeline;
 use std::process::ExitCode;
 
-const USAGE: &str = "usage: rig drain [--short] | impaired [SEED] | death | all | compare";
+const USAGE: &str = "usage: rig drain [--short] | ports [--short] | impaired [SEED] | death | all | short | compare";
 
 /// What becomes of which packet in the drill with bad links, unless another seed is given.
 const SEED: u64 = 1;
 
 /// The drills of `all`.
-const ALL: [&str; 3] = ["drain", "impaired", "death"];
+const ALL: [&str; 4] = ["drain", "ports", "impaired", "death"];
+/// The drills of `short`, each in its short form.
+const SHORT: [&str; 2] = ["drain", "ports"];
 
 fn main() -> ExitCode {
     let words: Vec<String> = std::env::args().skip(1).collect();
@@ -24,9 +25,13 @@ fn main() -> ExitCode {
 
 fn run(lab: &Lab, timeline: &Timeline, words: &[&str]) -> Result<(), Failure> {
     match words {
-        ["drain"] => in_part(lab, "drain", |part| drain::run(part, timeline, Pace::FULL)),
+        ["drain"] => in_part(lab, "drain", |part| drain::run(part, timeline, drain::Pace::FULL)),
         ["drain", "--short"] => {
-            in_part(lab, "drain", |part| drain::run(part, timeline, Pace::SHORT))
+            in_part(lab, "drain", |part| drain::run(part, timeline, drain::Pace::SHORT))
+        }
+        ["ports"] => in_part(lab, "ports", |part| ports::run(part, timeline, ports::Pace::FULL)),
+        ["ports", "--short"] => {
+            in_part(lab, "ports", |part| ports::run(part, timeline, ports::Pace::SHORT))
         }
         ["impaired"] => in_part(lab, "impaired", |part| impaired::run(part, timeline, SEED)),
         ["impaired", seed] => {
@@ -36,6 +41,7 @@ fn run(lab: &Lab, timeline: &Timeline, words: &[&str]) -> Result<(), Failure> {
         ["death"] => in_part(lab, "death", |part| death::run(part, timeline)),
         ["compare"] => in_part(lab, "compare", |part| compare::run(part, timeline)),
         ["all"] => ALL.iter().try_for_each(|drill| run(lab, timeline, &[drill])),
+        ["short"] => SHORT.iter().try_for_each(|drill| run(lab, timeline, &[drill, "--short"])),
         _ => fail(USAGE),
     }
 }

@@ -1,12 +1,12 @@
 //! The books: what each server's count must be, told without the director's table.
 //!
 //! One is kept from what clients and replicas know, and each count is held against it at once. The other is kept from the
-//! packets, where some are lost or come twice, and all counts are held against it in the end.
+//! packets, where some are lost or come twice, and all counts are held against it in the end. A drill has either, or both.
 
+pub mod both;
 pub mod looks;
 pub mod observation;
 pub mod packets;
-pub mod returns;
 pub mod sessions;
 
 use crate::lab::director::Director;

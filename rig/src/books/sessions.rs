@@ -1,8 +1,8 @@
 //! The book of the sessions: what each server's count must be, from what clients and replicas know.
 //!
-//! An open connection counts. One that both sides finished counts until the director's clock is 120 past its last packet.
-//! The moment of that packet is known only as lying between two readings of the clock, so in between a count may be one or
-//! the other; outside it is exact.
+//! An open connection counts. One that both sides finished counts until the director's clock is 120 past its last packet, or
+//! until its client's port comes back. The moment of that packet is known only as lying between two readings of the clock, so
+//! in between a count may be one or the other; outside it is exact.
 
 use crate::books::{Book, FINISHED};
 use crate::lab::director::Director;
@@ -24,7 +24,8 @@ struct Last {
     after: u32,
 }
 
-/// Connections that come and go all the time and aren't known one by one.
+/// Connections that come and go all the time and aren't known one by one. None is from the port of an entry: the client's kernel
+/// keeps a closed port back for a minute, unless it is told otherwise.
 #[derive(Clone, Debug)]
 struct Crowd {
     servers: Vec<usize>,
@@ -55,6 +56,8 @@ impl Book for SessionBook {
     }
 
     fn opened(&mut self, server: usize, port: u16) {
+        // No look came since its SYN: whether the finished one still counted then or not, it doesn't now.
+        self.entries.retain(|entry| entry.port != port || entry.ended.is_none());
         self.entries.push(Entry { server, port, ended: None });
     }
 
@@ -185,6 +188,23 @@ mod tests {
         assert_eq!((book.bounds(0, 130), book.bounds(1, 130)), (bounds(0, 0), bounds(1, 1)));
         book.ended(40000, 200, 200);
         assert_eq!(book.bounds(1, 320), bounds(0, 0));
+    }
+
+    #[test]
+    fn a_port_that_comes_back_takes_its_finished_connection_off_at_once_and_no_other() {
+        let mut book = SessionBook::default();
+        for (server, port) in [(0, 40000), (0, 40001), (0, 40002)] {
+            book.opened(server, port);
+        }
+        book.ended(40000, 10, 12);
+        book.ended(40001, 10, 12);
+        assert!(book.check(&status(20, [3, 0])).is_ok());
+        book.opened(1, 40000);
+        assert!(book.check(&status(20, [2, 1])).is_ok());
+        for wrong in [[3, 0], [3, 1], [1, 1], [2, 0]] {
+            assert!(book.check(&status(20, wrong)).is_err(), "{wrong:?}");
+        }
+        assert!(book.check(&status(132, [1, 1])).is_ok(), "the new one is not finished");
     }
 
     #[test]

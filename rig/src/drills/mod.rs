@@ -4,4 +4,5 @@ pub mod compare;
 pub mod death;
 pub mod drain;
 pub mod impaired;
+pub mod ports;
 mod service;

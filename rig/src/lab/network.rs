@@ -78,6 +78,19 @@ pub fn attach(lab: &Lab, servers: usize) -> Result<(), Failure> {
     Ok(())
 }
 
+/// Lets the client's and the servers' TCP send nothing again for 10 s, nor a probe after some milliseconds: for links that lose
+/// nothing. On a busy machine a FIN that is sent again can find its receiver closed, and is answered by an RST, which ends the
+/// connection at the director in a moment that neither side can tell.
+pub fn send_once(lab: &Lab, servers: usize) -> Result<(), Failure> {
+    let servers = (0..servers).map(|k| (server(k), gateway(k)));
+    for (name, via) in servers.chain([("client".into(), DIRECTOR.into())]) {
+        lab.output(&name, SYSCTL, &["-q", "-w", "net.ipv4.tcp_early_retrans=0"])?;
+        let route = ["route", "change", "default", "via", &via, "rto_min", "10s"];
+        lab.output(&name, IP, &route)?;
+    }
+    Ok(())
+}
+
 fn add_namespace(lab: &Lab, name: &str) -> Result<(), Failure> {
     crate::lab::output(IP.command().args(["netns", "add", &lab.namespace(name)]))?;
     lab.output(name, IP, &["link", "set", "lo", "up"])?;

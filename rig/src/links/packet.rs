@@ -73,11 +73,6 @@ impl Packet {
         }
     }
 
-    /// The sequence number, in tcpdump's words, of a packet by which a client begins a connection; none for others.
-    pub fn first_sequence_number(&self) -> Option<&str> {
-        (self.flags == "S").then(|| self.content.split(',').next().unwrap_or_default())
-    }
-
     /// Whether the other is this packet with other addresses and ports: what the director makes of it.
     pub fn is_rewritten_as(&self, other: &Packet) -> bool {
         (&self.identification, &self.flags, &self.content)

@@ -1,7 +1,7 @@
 //! A client's session: a real `psql` through the virtual address, kept open.
 
 use crate::lab::network::{self, balanced, VIRTUAL, VIRTUAL_PORT};
-use crate::lab::{ensure, fail, Failure, Lab, Running};
+use crate::lab::{ensure, fail, wait_for, Failure, Lab, Running};
 use programs::PSQL;
 use std::io::{BufRead, BufReader, Read, Write};
 use std::process::{ChildStdin, Stdio};
@@ -12,6 +12,8 @@ use std::time::{Duration, Instant};
 const PATIENCE: Duration = Duration::from_secs(30);
 /// The line after the last line of an answer.
 const MARK: &str = "-- end of the answer --";
+/// What the client's kernel says while each of its ports is in use, or was too short a time ago.
+const NO_PORT: &str = "Cannot assign requested address";
 /// Where a session is, in the replica's own words.
 const WHERE: &str = "select name, inet_server_addr(), inet_client_port() from replica";
 
@@ -34,8 +36,15 @@ pub struct Session {
 }
 
 impl Session {
-    /// Opens a session through the virtual address, and asks which replica answers.
+    /// Opens a session through the virtual address, as soon as the client has a port for it, and asks which replica answers.
     pub fn open(lab: &Lab) -> Result<Session, Failure> {
+        wait_for("a port for a session", PATIENCE, || match Session::start(lab) {
+            Err(failure) if failure.0.contains(NO_PORT) => Ok(None),
+            started => started.map(Some),
+        })
+    }
+
+    fn start(lab: &Lab) -> Result<Session, Failure> {
         let mut command = lab.command("client", PSQL);
         command.args(["-X", "-A", "-t", "-q", "-v", "ON_ERROR_STOP=1", "-U", "postgres"]);
         command.args(["-h", VIRTUAL, "-p", VIRTUAL_PORT, "-d", "postgres"]);

@@ -10,6 +10,14 @@ pub struct Moment {
     pub written: f64,
 }
 
+/// What removes a connection before its idle limit.
+#[derive(Clone, Copy, Debug, PartialEq, Eq)]
+pub enum Removal {
+    Reset,
+    /// Both sides had finished it, and its client's SYN came again.
+    Renewal,
+}
+
 /// A connection in the book.
 #[derive(Clone, Debug)]
 pub struct Connection {
@@ -19,12 +27,12 @@ pub struct Connection {
     pub last: Moment,
     pub client_finished: bool,
     pub server_finished: bool,
-    pub reset: bool,
+    pub removed: Option<(Removal, Moment)>,
 }
 
 impl Connection {
     pub fn new(client: &str, server: usize, opened: Moment) -> Connection {
-        let (client_finished, server_finished, reset) = (false, false, false);
+        let (client_finished, server_finished, removed) = (false, false, None);
         Connection {
             client: client.into(),
             server,
@@ -32,23 +40,30 @@ impl Connection {
             last: opened,
             client_finished,
             server_finished,
-            reset,
+            removed,
         }
     }
 
+    pub fn is_finished(&self) -> bool {
+        self.client_finished && self.server_finished
+    }
+
+    pub fn was_removed_by(&self, removal: Removal) -> bool {
+        self.removed.is_some_and(|(by, _)| by == removal)
+    }
+
     pub fn limit(&self) -> i64 {
-        if self.client_finished && self.server_finished {
-            i64::from(FINISHED)
-        } else {
-            i64::from(IDLE)
-        }
+        i64::from(if self.is_finished() { FINISHED } else { IDLE })
     }
 
     pub fn told(&self, clock: &Clock) -> String {
         let (_, last) = clock.seconds(self.last.handed, self.last.written);
-        let how =
-            if self.reset { ", reset".into() } else { format!(", counts for {} s", self.limit()) };
-        format!("{} seen last at clock {last}{how}", self.client)
+        let how = match self.removed {
+            Some((Removal::Reset, _)) => "reset".into(),
+            Some((Removal::Renewal, _)) => "renewed".into(),
+            None => format!("counts for {} s", self.limit()),
+        };
+        format!("{} seen last at clock {last}, {how}", self.client)
     }
 
     /// The least and the greatest number that it can add to its server's count at a look.
@@ -57,10 +72,10 @@ impl Connection {
         let limit = self.limit();
         let shown = i64::from(look.status.clock);
         let opened = (self.opened.written <= look.before, self.opened.handed <= look.after);
-        let there = match self.reset {
-            true => (self.last.handed > look.after, self.last.written >= look.before),
-            false => (shown < first + limit, shown < last + limit),
-        };
-        (u32::from(opened.0 && there.0), u32::from(opened.1 && there.1))
+        let heard = (shown < first + limit, shown < last + limit);
+        let kept = self.removed.map_or((true, true), |(_, moment)| {
+            (moment.handed > look.after, moment.written >= look.before)
+        });
+        (u32::from(opened.0 && heard.0 && kept.0), u32::from(opened.1 && heard.1 && kept.1))
     }
 }

@@ -3,7 +3,8 @@
 //! Clients and replicas can't tell when a connection's last packet went through where packets are lost or doubled: a side
 //! whose last segment is not acknowledged sends it again, after 0.2 s at first and then after twice the time of before; and
 //! a doubled FIN that finds its receiver closed is answered by an RST, which ends the connection at once. So this book is
-//! kept from the packets themselves: a connection counts until an RST, or until its idle limit after the last packet.
+//! kept from the packets themselves: a connection counts until an RST, or until its idle limit after the last packet; one that
+//! both sides have finished, also no longer than until its client's next SYN, which opens another.
 
 mod connection;
 #[cfg(test)]
@@ -12,7 +13,7 @@ mod tests;
 use crate::books::looks::{Clock, Look};
 use crate::lab::{ensure, fail, Failure};
 use crate::links::packet::{server_of, Packet};
-use connection::{Connection, Moment};
+use connection::{Connection, Moment, Removal};
 use std::collections::{HashMap, VecDeque};
 
 /// How many connections a failure tells.
@@ -46,9 +47,7 @@ impl PacketBook {
             if packet.is_written() {
                 book.written(packet, clock)?;
             } else {
-                let inbound = server_of(&packet.source).is_none();
-                let client = if inbound { &packet.source } else { &packet.destination };
-                book.handed.entry(client.clone()).or_default().push_back(packet.clone());
+                book.handed.entry(packet.client().into()).or_default().push_back(packet.clone());
             }
         }
         book.refused += book.handed.values().map(VecDeque::len).sum::<usize>();
@@ -58,8 +57,8 @@ impl PacketBook {
     /// The director wrote a packet: it has taken the handed one that it was made from, and refused those before it.
     fn written(&mut self, packet: &Packet, clock: &Clock) -> Result<(), Failure> {
         let to = server_of(&packet.destination);
-        let client = if to.is_some() { &packet.source } else { &packet.destination };
-        let waiting = self.handed.entry(client.clone()).or_default();
+        let client = packet.client();
+        let waiting = self.handed.entry(client.into()).or_default();
         let place = waiting.iter().position(|handed| handed.is_rewritten_as(packet));
         let Some(place) = place else {
             return fail(format!("the director wrote what it wasn't handed: {packet}"));
@@ -79,10 +78,8 @@ impl PacketBook {
     /// Enters a packet that the director took.
     fn take(&mut self, taken: Taken, clock: &Clock) -> Result<(), Failure> {
         let Taken { client, server, inbound, flags, moment } = taken;
-        let opens = inbound && flags.contains('S') && !flags.contains(['.', 'R', 'F']);
-        if opens && !self.is_present(client, moment, clock) {
-            self.newest.insert(client.into(), self.connections.len());
-            self.connections.push(Connection::new(client, server, moment));
+        if inbound && flags.contains('S') && !flags.contains(['.', 'R', 'F']) {
+            self.open(client, server, moment, clock);
         }
         let Some(&newest) = self.newest.get(client) else {
             return fail(format!(
@@ -96,22 +93,34 @@ impl PacketBook {
         );
         ensure(connection.server == server, words)?;
         connection.last = moment;
-        connection.reset |= flags.contains('R');
+        if flags.contains('R') {
+            connection.removed = Some((Removal::Reset, moment));
+        }
         let finished =
             if inbound { &mut connection.client_finished } else { &mut connection.server_finished };
         *finished |= flags.contains('F');
         Ok(())
     }
 
-    /// Whether the client's newest connection is still there when that packet comes.
-    fn is_present(&self, client: &str, moment: Moment, clock: &Clock) -> bool {
-        let Some(&newest) = self.newest.get(client) else {
-            return false;
-        };
-        let connection = &self.connections[newest];
+    /// Enters a client's SYN: it opens a connection unless one is there that is not finished, and removes a finished one.
+    fn open(&mut self, client: &str, server: usize, moment: Moment, clock: &Clock) {
+        if let Some(present) = self.present(client, moment, clock) {
+            if !present.is_finished() {
+                return;
+            }
+            present.removed = Some((Removal::Renewal, moment));
+        }
+        self.newest.insert(client.into(), self.connections.len());
+        self.connections.push(Connection::new(client, server, moment));
+    }
+
+    /// The client's newest connection, if it is still there when that packet comes.
+    fn present(&mut self, client: &str, moment: Moment, clock: &Clock) -> Option<&mut Connection> {
+        let connection = &mut self.connections[*self.newest.get(client)?];
         let (_, last) = clock.seconds(connection.last.handed, connection.last.written);
         let (first, _) = clock.seconds(moment.handed, moment.written);
-        !connection.reset && first < last + connection.limit()
+        let there = connection.removed.is_none() && first < last + connection.limit();
+        there.then_some(connection)
     }
 
     /// How many connections were opened on that server.
@@ -119,13 +128,13 @@ impl PacketBook {
         self.connections.iter().filter(|connection| connection.server == server).count()
     }
 
-    /// The connections that were opened on that server before that time and weren't ended by an RST: the least and the
+    /// The connections that were opened on that server before that time and reached their idle limit: the least and the
     /// greatest second of the director's clock at which their last packet can have come.
     pub fn last_packet(&self, server: usize, before: f64, clock: &Clock) -> Option<(i64, i64)> {
         let here = self
             .connections
             .iter()
-            .filter(|connection| connection.server == server && !connection.reset);
+            .filter(|connection| connection.server == server && connection.removed.is_none());
         let here = here.filter(|connection| connection.opened.handed < before);
         let last = here
             .map(|connection| connection.last)
@@ -137,8 +146,16 @@ impl PacketBook {
     pub fn resets(&self, server: usize) -> usize {
         self.connections
             .iter()
-            .filter(|connection| connection.server == server && connection.reset)
+            .filter(|connection| {
+                connection.server == server && connection.was_removed_by(Removal::Reset)
+            })
             .count()
+    }
+
+    /// How many connections were opened from a port that came back while its finished connection still counted.
+    pub fn renewals(&self) -> usize {
+        let renewed = |connection: &&Connection| connection.was_removed_by(Removal::Renewal);
+        self.connections.iter().filter(renewed).count()
     }
 
     /// Holds every count of every look against the book. Tells for how many of them only one number was right.

@@ -76,6 +76,44 @@ fn a_reset_ends_a_connection_at_once_and_the_port_may_come_again() {
     assert!(check(&packets, &[(20, [1, 0])]).is_err());
 }
 
+/// A connection on the first server that is opened at 10, and finished by both sides at 30.
+fn finished() -> [[Packet; 2]; 3] {
+    [taken(10.1, 0, true, "S"), taken(20.1, 0, true, "F."), taken(30.1, 0, false, "F.")]
+}
+
+#[test]
+fn a_syn_on_a_finished_connection_removes_it_and_opens_another() {
+    let packets = [&finished()[..], &[taken(40.1, 1, true, "S")]].concat();
+    assert_eq!(book(&packets).unwrap().renewals(), 1);
+    let right = [(39, [1, 0]), (40, [0, 1]), (150, [0, 1]), (939, [0, 1]), (940, [0, 0])];
+    assert_eq!(check(&packets, &right), Ok(10));
+    for wrong in [(39, [0, 0]), (40, [1, 1]), (40, [1, 0]), (160, [0, 0])] {
+        assert!(check(&packets, &[wrong]).is_err(), "{wrong:?}");
+    }
+}
+
+#[test]
+fn a_renewed_connection_is_not_renewed_by_the_same_syn_sent_again() {
+    let again = [taken(40.1, 1, true, "S"), taken(41.1, 1, true, "S")];
+    let book = book(&[&finished()[..], &again].concat()).unwrap();
+    assert_eq!((book.renewals(), book.opened(0), book.opened(1)), (1, 1, 1));
+}
+
+#[test]
+fn only_a_syn_alone_renews_and_only_what_both_sides_have_finished_and_still_counts() {
+    let renewals = |packets: &[[Packet; 2]]| book(packets).map(|book| book.renewals());
+    for flags in ["S.", "SF", "."] {
+        let packets = [&finished()[..], &[taken(40.1, 0, true, flags)]].concat();
+        assert_eq!(renewals(&packets), Ok(0), "{flags}");
+    }
+    let half = [&finished()[..2], &[taken(40.1, 0, true, "S")]].concat();
+    assert_eq!(renewals(&half), Ok(0));
+    for (time, want) in [(149.1, 1), (151.1, 0)] {
+        let packets = [&finished()[..], &[taken(time, 1, true, "S")]].concat();
+        assert_eq!(renewals(&packets), Ok(want), "{time}");
+    }
+}
+
 #[test]
 fn a_moved_connection_is_found() {
     let packets = [taken(10.1, 0, true, "S"), taken(11.1, 1, true, ".")];

@@ -5,7 +5,7 @@ mod zero;
 
 use super::service::{counts, listed, Kept, Service};
 use crate::books::sessions::SessionBook;
-use crate::lab::{ensure, Failure, Lab, REPLICAS};
+use crate::lab::{ensure, network, Failure, Lab, REPLICAS};
 use crate::load::pgbench::{Load, Plan};
 use crate::timeline::Timeline;
 
@@ -42,6 +42,7 @@ impl Pace {
 pub fn run(lab: &Lab, timeline: &Timeline, pace: Pace) -> Result<(), Failure> {
     timeline.title("A replica is drained, unplugged at zero and put back");
     let service = Service::start(lab, timeline, pace.clock_speed, |_| SessionBook::default())?;
+    network::send_once(lab, REPLICAS)?;
     let mut drill = Drill { service, timeline, pace };
     drill.service.open_on_each(EACH)?;
     let kept = drill.start_kept()?;

@@ -1,11 +1,9 @@
 //! The drained replica is unplugged and put back, and the drill ends.
 
 use super::{Drill, DRAINED};
-use crate::books::returns::early_returns;
 use crate::lab::status::Standing;
 use crate::lab::{ensure, Failure};
 use crate::load::pgbench::Load;
-use crate::timeline::Timeline;
 
 /// Fewer packets than any run of it has.
 const LEAST_PACKETS: usize = 1_000;
@@ -48,35 +46,13 @@ impl Drill<'_> {
         let payments = self.check_payments()?;
         let clock = self.service.end_all()?;
         self.tell(format!("every replica reads 0 at clock {clock}, none too early or too late"));
-        let (opened, logged) = (self.service.director.openings()?, self.service.connections()?);
+        let openings = self.service.check_openings()?;
         let (timeline, statements) = (self.timeline, self.service.statements);
-        let (_, captured) = self.service.finish(LEAST_PACKETS)?;
-        let early = early_returns(&captured.device, self.pace.clock_speed);
-        check_openings(timeline, opened, logged.iter().sum(), early)?;
+        self.service.finish(LEAST_PACKETS)?;
+        timeline.tell(openings);
         timeline.tell(format!(
             "{statements} statements, each answered by the replica of its session; {payments} payments, none lost"
         ));
         Ok(())
     }
-}
-
-/// The director has opened as many connections as the replicas have received, but for those from ports that came back early.
-fn check_openings(
-    timeline: &Timeline,
-    opened: usize,
-    logged: usize,
-    early: usize,
-) -> Result<(), Failure> {
-    let words = format!(
-        "the director opened {opened} connections, the replicas' logs tell {logged}, and {early} came from a port whose finished \
-         connection still counted"
-    );
-    ensure(opened + early == logged, &words)?;
-    timeline.tell(match early {
-        0 => {
-            format!("the director opened {opened} connections, as many as the replicas' logs tell")
-        }
-        _ => words,
-    });
-    Ok(())
 }

@@ -82,11 +82,6 @@ impl Service<'_, SessionBook> {
         Ok(report)
     }
 
-    /// How many connections of the client each replica has had so far, by its own log.
-    pub fn connections(&self) -> Result<Vec<usize>, Failure> {
-        self.replicas.iter().map(|replica| Ok(replica.connections()?.len())).collect()
-    }
-
     /// The connections that came after those, each with its replica.
     fn connections_after(&self, known: &[usize]) -> Result<Vec<(usize, Logged)>, Failure> {
         let mut fresh = Vec::new();

@@ -1,6 +1,7 @@
 //! The service that is drilled: replicas, the director before them, the clients, and one of the two books of what the counts
 //! must be.
 
+mod drained;
 mod loads;
 mod observed;
 
@@ -10,7 +11,7 @@ use crate::books::{Book, FINISHED};
 use crate::lab::director::{Director, Options};
 use crate::lab::network::{self, VIRTUAL, VIRTUAL_PORT};
 use crate::lab::postgres::Postgres;
-use crate::lab::status::{Row, Standing, Status};
+use crate::lab::status::Status;
 use crate::lab::{ensure, wait_for, Failure, Lab, REPLICAS};
 use crate::links::capture::{Captured, Captures};
 use crate::load::payments::Client;
@@ -124,28 +125,6 @@ impl<'a, B: Book> Service<'a, B> {
         Ok(())
     }
 
-    /// Drains a replica that has connections, and gives its row.
-    pub fn drain(&mut self, server: usize) -> Result<Row, Failure> {
-        self.director.drain(server)?;
-        let row = self.look()?.rows.swap_remove(server);
-        let draining = (row.weight, row.standing) == (0, Standing::Draining);
-        ensure(draining, format!("after the drain: {row:?}"))?;
-        Ok(row)
-    }
-
-    /// Opens so many sessions, of which none may come to the drained replica. Gives their replicas.
-    pub fn open_newcomers(
-        &mut self,
-        sessions: usize,
-        drained: usize,
-    ) -> Result<Vec<usize>, Failure> {
-        let servers: Result<Vec<usize>, Failure> = (0..sessions).map(|_| self.open()).collect();
-        let servers = servers?;
-        let words = format!("new sessions came to replicas {servers:?}, and {drained} is drained");
-        ensure(!servers.contains(&drained), words)?;
-        Ok(servers)
-    }
-
     /// Lets every session do some work.
     pub fn work(&mut self) -> Result<(), Failure> {
         self.clients.iter_mut().try_for_each(Client::work)
@@ -196,6 +175,19 @@ impl<'a, B: Book> Service<'a, B> {
         let words = format!("replica {server} has {found:?} payments and not {want}");
         ensure(found == [want.to_string()], words)?;
         Ok(want)
+    }
+
+    /// How many connections of the client each replica has had so far, by its own log.
+    pub fn connections(&self) -> Result<Vec<usize>, Failure> {
+        self.replicas.iter().map(|replica| Ok(replica.connections()?.len())).collect()
+    }
+
+    /// The director must have opened as many connections as the replicas have received, by their logs. Gives the words for it.
+    pub fn check_openings(&self) -> Result<String, Failure> {
+        let (opened, logged) = (self.director.openings()?, self.connections()?.iter().sum());
+        let words = format!("the director opened {opened} connections");
+        ensure(opened == logged, format!("{words}, the replicas' logs tell {logged}"))?;
+        Ok(format!("{words}, as many as the replicas' logs tell"))
     }
 
     /// Ends all. Every checksum that left must be right, and at least so many packets must have left.
