@@ -1,8 +1,9 @@
 //! `bench SIDE CALL SLOTS SERVERS REPS`: makes a sound state with all but one slot used, and repeats one call on it.
 //!
-//! SIDE is library, reference or plain; CALL is kept, opening or tick. With `--one-port` each client has an address of its own and all
-//! have one port, instead of few addresses with many ports; with `--scheduler=N` the scheduler is N and not 1. Count two runs with
-//! different REPS under callgrind: their difference is the calls alone (the script `bench` at the top of the repository does that).
+//! SIDE is library, reference or plain; CALL is kept, opening, renewal or tick. With `--one-port` each client has an address of its
+//! own and all have one port, instead of few addresses with many ports; with `--scheduler=N` the scheduler is N and not 1. Count two
+//! runs with different REPS under callgrind: their difference is the calls alone (the script `bench` at the top of the repository
+//! does that).
 //! With `--time` it prints nanoseconds a call instead.
 
 mod plain;
@@ -34,7 +35,7 @@ fn main() {
 }
 
 fn usage() -> ! {
-    eprintln!("usage: bench library|reference|plain kept|opening|tick SLOTS SERVERS REPS [--time] [--one-port] [--scheduler=N]");
+    eprintln!("usage: bench library|reference|plain kept|opening|renewal|tick SLOTS SERVERS REPS [--time] [--one-port] [--scheduler=N]");
     std::process::exit(2);
 }
 

@@ -14,6 +14,7 @@ const NEW: (u32, u16) = (0x0B000001, 40000);
 pub enum Call {
     Kept,
     Opening,
+    Renewal,
     Tick,
 }
 
@@ -22,6 +23,7 @@ impl Call {
         match name {
             "kept" => Some(Call::Kept),
             "opening" => Some(Call::Opening),
+            "renewal" => Some(Call::Renewal),
             "tick" => Some(Call::Tick),
             _ => None,
         }
@@ -37,6 +39,7 @@ pub struct Scene {
     packet: Vec<u8>,
     kept: Vec<u8>,
     opening: Vec<u8>,
+    renewal: Vec<u8>,
 }
 
 impl Scene {
@@ -69,8 +72,9 @@ impl Scene {
             state.servers[server].count += 1;
         }
         let packet_of = |from, flags| packets::tcp(from, (VIRTUAL, 5432), flags).build();
-        let (kept, opening) = (packet_of(clients.client(used - 1), 16), packet_of(NEW, 2));
-        Scene { twin: twin_of(&state), state, row, packet: kept.clone(), kept, opening }
+        let last = clients.client(used - 1);
+        let (kept, opening, renewal) = (packet_of(last, 16), packet_of(NEW, 2), packet_of(last, 2));
+        Scene { twin: twin_of(&state), state, row, packet: kept.clone(), kept, opening, renewal }
     }
 
     /// As it was, for another call.
@@ -80,8 +84,24 @@ impl Scene {
     }
 
     fn set_packet(&mut self, call: Call) {
-        let from = if call == Call::Opening { &self.opening } else { &self.kept };
+        let from = match call {
+            Call::Kept | Call::Tick => &self.kept,
+            Call::Opening => &self.opening,
+            Call::Renewal => &self.renewal,
+        };
         self.packet.copy_from_slice(from);
+        if call == Call::Renewal {
+            self.finish_last();
+        }
+    }
+
+    /// The last connection is one that both have finished. (A renewal left another there, for a state that is thrown away.)
+    fn finish_last(&mut self) {
+        let slots = self.row.len() / raw::WORDS_PER_SLOT;
+        let used = (slots - 1).max(1);
+        let at = raw::WORDS_PER_SLOT * (used - 1);
+        self.row[at] = 4;
+        self.row[at + 3] = (used as u32 - 1) % self.state.service.servers;
     }
 }
 
