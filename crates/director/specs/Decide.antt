@@ -57,7 +57,7 @@ onRoom d make (Found.At k) = onPick (make k) (nextPick d)
 abbrev pub onAbsent : Director → List Slot → Segment → Decision
 onAbsent d l m = cond (opens (d .service .protocol) m) (onRoom d Decision.Open (firstFrom isUnused 0 l)) (Decision.Refuse Refusal.NoConnection)
 
--- "An inbound packet with SYN set and ACK, RST, FIN clear that meets a connection in phase 4" (SCOPE 8.16); 6 is TCP, as UDP is never in phase 4
+-- "An inbound packet with SYN set and ACK, RST, FIN clear that meets a connection in phase 4" (SCOPE 8.16). (6 is TCP: UDP is never in phase 4.)
 abbrev pub renews : Segment → (phase : ℕ) → Bool
 renews m phase = eqb phase 4 && opens 6 m
 
