@@ -1,5 +1,4 @@
 -- Refusals 5 and 11 to 14, in calls that are one number or flag apart (SCOPE 4.5, 4.11 to 4.14). Assumes nothing: these are definitions.
-use Prim.Native.Nat.{ℕ}
 use mathlib.Core.List.{List, [], _∷_}
 use Rattle.table.specs.Slots.{freeSlot}
 use Rattle.director.specs.declared.state.Way.{Way}

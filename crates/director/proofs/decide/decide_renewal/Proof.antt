@@ -1,7 +1,7 @@
 -- `decide::decide_renewal` meets its contract: each arm rewrites with the slot found and the pick.
 -- Assumes nothing.
 use mathlib.Core.List.{List}
-use mathlib.Core.Path.{_≡_, ap, _∙_}
+use mathlib.Core.Path.{_≡_}
 use borrow.Author.Needs.{needs}
 use denote.Ref.{now}
 use lib.ListN.{getD}
