@@ -1,3 +1,4 @@
+pub mod BookCases
 pub mod Numbers
 pub mod Slots
 pub mod Passage

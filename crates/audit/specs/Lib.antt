@@ -5,6 +5,7 @@ pub mod Demand1
 pub mod Demand2
 pub mod Cases
 pub mod Samples
+pub mod BookCases
 pub mod SetupCases
 pub mod PacketCases
 pub mod ConnectionCases
