@@ -47,8 +47,8 @@ allTold [] = []
 allTold (e ∷ es) = told e ++ allTold es
 
 -- the book's clock and entries once a line comes after these, beside what is printed
-abbrev pub after : Book → List Line → Line → (clock : ℕ) → List ℕ → Case
-after b lines last clock entries =
+abbrev pub noted : Book → List Line → Line → (clock : ℕ) → List ℕ → Case
+noted b lines last clock entries =
     let r = bookOf b (begun ++ lines ++ (last ∷ [])) in record { given = r .clock ∷ allTold (r .entries); printed = clock ∷ entries }
 
 -- Ports that come back, whatever the book was before
@@ -57,21 +57,21 @@ after b lines last clock entries =
 abbrev pub openedCases : Book → List Case
 openedCases b =
     let again = line (fromClient 40000 syn 13) (passed 1 Change.Opened) in
-    after b [] again 13 (entry 40000 1 0 13 ++ entry 40000 0 0 10)
-    ∷ after b clientFinishes again 13 (entry 40000 1 0 13 ++ entry 40000 0 1 11)
-    ∷ after b serverFinishes again 13 (entry 40000 1 0 13 ++ entry 40000 0 2 12)
-    ∷ after b bothFinish again 13 (entry 40000 1 0 13)
+    noted b [] again 13 (entry 40000 1 0 13 ++ entry 40000 0 0 10)
+    ∷ noted b clientFinishes again 13 (entry 40000 1 0 13 ++ entry 40000 0 1 11)
+    ∷ noted b serverFinishes again 13 (entry 40000 1 0 13 ++ entry 40000 0 2 12)
+    ∷ noted b bothFinish again 13 (entry 40000 1 0 13)
     ∷ []
 
 -- "for such a packet answered "opened", and no other" (SCOPE 9.21): a SYN with ACK; another client's; such a packet answered "kept", 14, 10
 abbrev pub otherCases : Book → List Case
 otherCases b =
     let again = fromClient 40000 syn 13 in
-    after b bothFinish (line (fromClient 40000 synAck 13) (passed 1 Change.Opened)) 13 (entry 40000 1 0 13 ++ entry 40000 0 3 12)
-    ∷ after b bothFinish (line (fromClient 40001 syn 13) (passed 1 Change.Opened)) 13 (entry 40001 1 0 13 ++ entry 40000 0 3 12)
-    ∷ after b bothFinish (line again (passed 0 Change.Kept)) 13 (entry 40000 0 3 13)
-    ∷ after b bothFinish (line again (Answer.Refused Refusal.NoWeight)) 13 (entry 40000 0 3 12)
-    ∷ after b bothFinish (line again (Answer.Refused Refusal.OtherEndpoint)) 12 (entry 40000 0 3 12)
+    noted b bothFinish (line (fromClient 40000 synAck 13) (passed 1 Change.Opened)) 13 (entry 40000 1 0 13 ++ entry 40000 0 3 12)
+    ∷ noted b bothFinish (line (fromClient 40001 syn 13) (passed 1 Change.Opened)) 13 (entry 40001 1 0 13 ++ entry 40000 0 3 12)
+    ∷ noted b bothFinish (line again (passed 0 Change.Kept)) 13 (entry 40000 0 3 13)
+    ∷ noted b bothFinish (line again (Answer.Refused Refusal.NoWeight)) 13 (entry 40000 0 3 12)
+    ∷ noted b bothFinish (line again (Answer.Refused Refusal.OtherEndpoint)) 12 (entry 40000 0 3 12)
     ∷ []
 
 pub record Notes (b : Book) : Type 0 where

@@ -1,7 +1,6 @@
 -- Runs of calls with what each answers and the counts after it, as one statement; one of them meets demand 3's premise. proofs/Run.antt proves it.
 -- Assumes nothing: these are definitions.
 use Prim.Native.Nat.{ℕ}
-use mathlib.Core.Bool.{false}
 use mathlib.Core.List.{List, [], _∷_, _++_, map}
 use mathlib.Core.Path.{_≡_}
 use Rattle.servers.specs.Servers.{countAt}
@@ -9,7 +8,8 @@ use Rattle.table.specs.Slots.{words, freeSlot}
 use Rattle.director.specs.declared.state.Answer.{Answer}
 use Rattle.director.specs.declared.state.Way.{Way}
 use Rattle.audit.specs.Calls.{Call, setUp, setWeight, count, tick, packet, Fits, AllFit, State, called, next, after, recordOf}
-use Rattle.audit.specs.Book.{Entry, Book, bookOf}
+use Rattle.audit.specs.Book.{Book, bookOf}
+use Rattle.audit.specs.BookCases.{entry, allTold}
 use Rattle.audit.specs.Cases.{Case, Hold, answered, done, number, opened, kept, ended, refused}
 use Rattle.audit.specs.Samples.{serviceOf, twoServers, unsound, connection, bytes, ports, tcpPacket, fin, syn, rst, ack, finAck, synAck, fromClient, fromServer0, fromServer1, udpFromClient, udpFromServer0, udpFromServer1}
 
@@ -22,10 +22,6 @@ pub record Step : Type 0 where
 
 abbrev pub step : Call → List ℕ → (count0 count1 : ℕ) → Step
 step call answer count0 count1 = record { call = call; answer = answer; count0 = count0; count1 = count1 }
-
--- an entry of which none has finished
-abbrev pub entryOf : (address port server last : ℕ) → Entry
-entryOf address port server last = record { address = address; port = port; server = server; clientDone = false; serverDone = false; last = last }
 
 -- the calls in a row from a state on: what the rules give, beside what is printed
 abbrev pub told : State → List Step → List Case
@@ -178,7 +174,7 @@ renewing = map (λ (c : Step). c .call) renewingSteps
 -- what is left by then: "the old slot counts as free" (SCOPE 8.17), and the lowest is 0; in the book one entry is struck, and one is added
 pub record Renewed : Type 0 where
   pub row : after (unsound 15) renewing .row ≡ words (connection 1 40001 0 915 ∷ freeSlot ∷ freeSlot ∷ [])
-  pub entries : (b : Book) → bookOf b (recordOf (unsound 15) renewing) .entries ≡ entryOf 0x0A000001 40001 0 915 ∷ []
+  pub entries : (b : Book) → allTold (bookOf b (recordOf (unsound 15) renewing) .entries) ≡ entry 40001 0 0 915
 
 -- UDP, least-connection, in a row of three slots
 

@@ -60,15 +60,18 @@ pub fn find_free(row: &[u32]) -> Found
     Found::Nothing
 }
 
-// The lowest slot that is free once slot `k` is freed: there always is one.
+// The lowest slot that is free once slot `k` is freed: the lowest of the free ones and `k`.
 pub fn find_free_with(row: &[u32], k: SlotNo) -> SlotNo
     requires { ⌜ k .0 < length (now row) / wordsPerSlot ⌝ }
     ensures { λ r. ⌜ Found.At r ≡ firstFrom isUnused 0 (freed (slots (now (row .entry))) (k .0)) ⌝ }
 {
-    for j in 0..k.0 {
-        if is_unused_at(row, SlotNo(j)) {
-            return SlotNo(j);
+    match find_free(row) {
+        Found::Nothing => k,
+        Found::At(free) => {
+            if free.0 < k.0 {
+                return free;
+            }
+            k
         }
     }
-    k
 }

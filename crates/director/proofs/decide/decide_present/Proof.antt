@@ -33,17 +33,19 @@ decide-renewal-requires c κs =
     let a = c .before .before .before .before .before .before in
     let row = now (a .args .row) in
     let k = a .args .k .0 in
-    let new : renews (a .args .segment) (slotAt row k .phase) ≡ true = rw (← (c .before .before .before .before .slot-at .ensures)) (sym (c .before .renews-connection .ensures) ∙ c .if2 .taken) in
+    let new : renews (a .args .segment) (slotAt row k .phase) ≡ true
+    = rw (← (c .before .before .before .before .slot-at .ensures)) (sym (c .before .renews-connection .ensures) ∙ c .if2 .taken) in
     let phase = renewing 6 (a .args .segment) (slotAt row k .phase) new .0 in
     let used : isUnused (slotAt row k) ≡ false = ap (λ p. eqb p 0) phase in
     (a .pre .1, counted (a .args .director) row (sound-parts (a .args .director) row (a .pre .0)) k (omega (arith, length-slots row)) used .1)
 
 returns-2 : tie.Need-returns-2
 returns-2 c =
-    let a = c .before .before .before .before .before .before .before in
+    let a = c .before .before .before .before .before .before .before .args in
+    let here = sym (c .before .before .before .before .belongs-to .ensures) ∙ not-false _ (c .before .before .before .if1 .left) in
+    let new = sym (c .before .before .renews-connection .ensures) ∙ c .before .if2 .taken in
     c .decide-renewal .ensures
-    ∙ sym (renewed (a .args .director) (slots (now (a .args .row))) (a .args .segment) (a .args .k) _ _ (c .before .before .before .before .before .slot-at .ensures)
-    (sym (c .before .before .before .before .belongs-to .ensures) ∙ not-false _ (c .before .before .before .if1 .left)) (sym (c .before .before .renews-connection .ensures) ∙ c .before .if2 .taken))
+    ∙ sym (renewed (a .director) (slots (now (a .row))) (a .segment) (a .k) _ _ (c .before .before .before .before .before .slot-at .ensures) here new)
 
 returns-3 : tie.Need-returns-3
 returns-3 c =
