@@ -1,7 +1,7 @@
 -- A packet that got past 11: whatever is decided of it, by the decision's reasons, the state and the book agree afterwards, and what the claim
 -- says of it holds. Assumes nothing.
 use Prim.Native.Nat.{ℕ, _<_, _≤_}
-use mathlib.Core.Bool.{Bool, true, false, cond, not, _&&_, and-false, true≢false, false≢true}
+use mathlib.Core.Bool.{Bool, true, false, not, _&&_, and-false, true≢false}
 use mathlib.Core.List.{List, [], _∷_}
 use mathlib.Core.Logic.{⊎-elim}
 use mathlib.Core.Path.{_≡_, refl, sym, ap, _∙_}
@@ -14,7 +14,6 @@ use Rattle.lists.proofs.Cases.{truth, both, by-test}
 use Rattle.lists.proofs.Counting.{count-same}
 use Rattle.lists.proofs.Selecting.{count-off, keep-off, keep-all, keep-one}
 use Rattle.checksum.specs.Ones.{Bytes}
-use Rattle.packet.specs.declared.read.Flags.{Flags}
 use Rattle.servers.specs.declared.Server.{Server}
 use Rattle.servers.specs.declared.ServerNo.{ServerNo}
 use Rattle.scheduler.specs.declared.walk.Walk.{Walk}
@@ -27,20 +26,19 @@ use Rattle.table.proofs.Finding.{found-lowest, nothing-passes}
 use Rattle.director.specs.declared.state.Director.{Director}
 use Rattle.director.specs.declared.state.Change.{Change}
 use Rattle.director.specs.declared.state.Way.{Way}
-use Rattle.director.specs.declared.segment.Sender.{Sender}
 use Rattle.director.specs.declared.segment.Segment.{Segment}
 use Rattle.director.specs.declared.segment.Seen.{Seen}
 use Rattle.director.specs.declared.decide.Decision.{Decision}
 use Rattle.director.specs.State.{withServers, lent, Held}
 use Rattle.director.specs.Judge.{soundOf}
 use Rattle.director.specs.Segment.{segmentRead}
-use Rattle.director.specs.Decide.{opensBy, opens, belongs, renews, decided}
+use Rattle.director.specs.Decide.{opens, belongs, renews, decided}
 use Rattle.director.specs.Carry.{passed, carriedOut}
 use Rattle.director.specs.Packets.{routed}
 use Rattle.director.proofs.Sound.{sound-parts}
 use Rattle.director.proofs.Segments.{read-from, no-flags}
 use Rattle.director.specs.Laws.{isIts}
-use Rattle.director.proofs.Decisions.{hasIts, Its, Grounded, opens-here, renewing, decided-grounded}
+use Rattle.director.proofs.Decisions.{hasIts, Its, Grounded, opens-here, opens-no-rst, renewing, decided-grounded}
 use Rattle.director.proofs.Carried.{its-slot}
 use Rattle.audit.specs.Book.{Entry, Book, ofClient, names, newEntry, isRenewed, clockAccepted, entered, noteAnswer}
 use Rattle.audit.specs.Claim.{refused, isOpened, isEnded, mine, isStray, Passed}
@@ -49,16 +47,7 @@ use Rattle.audit.proofs.Slots.{entryOf, holds, client-holds, client-par
 use Rattle.audit.proofs.Passage.{read-same, goes}
 use Rattle.audit.proofs.Agreement.{Matches, bookAt, Agree, agreed, matches-opened, matches-kept, matches-ended, matches-renewed}
 
--- 1. A packet that opens is no RST of TCP
-opens-no-rst : (protocol : ℕ) (f : Flags) (sender : Sender) → opensBy protocol f sender ≡ true → (eqb protocol 6 && f .rst) ≡ false
-opens-no-rst protocol f (Sender.Server j) e = absurd (false≢true e)
-opens-no-rst protocol f Sender.Client e = by-flags (eqb protocol 6) (f .ack) (f .rst) (not (f .fin) && f .syn) e
-  where
-    by-flags : (tcp ack rst rest : Bool) → cond tcp (not ack && (not rst && rest)) true ≡ true → (tcp && rst) ≡ false
-    by-flags false ack rst rest e = refl
-    by-flags true ack false rest e = refl
-    by-flags true true true rest e = sym e
-    by-flags true false true rest e = sym e
+-- 1. Tests
 
 -- a test's number is 0 where it fails
 bit-none : (a : Bool) → eqb (bit a) 0 ≡ not a
@@ -191,6 +180,16 @@ module _ (d : Director) (row : List ℕ) (given : List Server) (es : List Entry)
         (rw (mine-is (k .0) (its .lowest .within) (its .lowest .passes), its .belongs)) exists (its .belongs)
         (ended ∙ sym (rst-tcp ∙ its .flag)) (λ _. its-entry (k .0) (its .lowest .within) (its .lowest .passes))
 
+  -- an opening: the book strikes what it should, and adds the new entry
+  opened-right : (i : ServerNo) (servers : List Server) (walk : Walk) (l′ : List Slot) (left : List Entry)
+      → let d′ = withServers d servers walk in
+      Matches d′ l′ given (newEntry m (i .0) (d .clock) ∷ left) → keep (λ e. not (isRenewed m e)) es ≡ left
+      → opens protocol m ≡ true → i .0 < d .service .servers → Routed way b p m (passed d′ (lent l′ p) m i Change.Opened)
+  opened-right i servers walk l′ left matches struck new exists =
+      passed-right i Change.Opened servers walk l′ _ matches (ap (λ (x : List Entry). bookAt d given (newEntry m (i .0) (d .clock) ∷ x)) struck)
+      (rw (new, and-false)) exists (opens-here protocol (m .flags) (m .sender) i new) (sym (opens-no-rst protocol (m .flags) (m .sender) new))
+      (λ n. absurd (true≢false n))
+
   -- 4. By the decision's cases
 
   by-decision : (a : Decision) → Grounded d l m a → Routed way b p m (carriedOut d (lent l p) m a)
@@ -211,20 +210,15 @@ module _ (d : Director) (row : List ℕ) (given : List Server) (es : List Entry)
       its-passed k true its Change.Ended _ _ _
       (matches-ended d l given es t m (k .0) (its .lowest .within) (its .lowest .passes) (slotAt row (k .0) .server .0)) refl refl
   by-decision (Decision.Open k i walk) new =
-      passed-right i Change.Opened _ walk _ _
+      opened-right i _ walk _ _
       (matches-opened d l given es t m (k .0) (i .0) walk (new .opening .lowest .within) (new .opening .lowest .passes) (new .absent))
-      (ap (λ (x : List Entry). bookAt d given (newEntry m (i .0) (d .clock) ∷ x)) (none-struck (new .absent)))
-      (rw (new .opens, and-false)) (new .opening .server) (opens-here protocol (m .flags) (m .sender) i (new .opens))
-      (sym (opens-no-rst protocol (m .flags) (m .sender) (new .opens))) (λ n. absurd (true≢false n))
+      (none-struck (new .absent)) (new .opens) (new .opening .server)
   by-decision (Decision.Renew old k i walk) new =
       let low = new .its .lowest in
-      let (phase, opens, rst) = renewing protocol m (slotAt row (old .0) .phase) (new .renews) in
-      passed-right i Change.Opened _ walk _ _
+      opened-right i _ walk _ _
       (matches-renewed d l given es t m (old .0) (low .within) (low .passes) (slotAt row (old .0) .server .0) (k .0) (i .0) walk
       (new .opening .lowest .within) (new .opening .lowest .passes))
-      (ap (λ (x : List Entry). bookAt d given (newEntry m (i .0) (d .clock) ∷ x)) (its-struck (old .0) (low .within) (low .passes) (new .renews)))
-      (rw (opens, and-false)) (new .opening .server) (opens-here protocol (m .flags) (m .sender) i opens)
-      (sym (opens-no-rst protocol (m .flags) (m .sender) opens)) (λ n. absurd (true≢false n))
+      (its-struck (old .0) (low .within) (low .passes) (new .renews)) (renewing protocol m (slotAt row (old .0) .phase) (new .renews) .1) (new .opening .server)
 
   pub routed-right : Routed way b p m (routed d (lent l p) m)
   unfolding routed

@@ -1,8 +1,8 @@
 -- What is decided of a packet in a sound state, with its reasons: all that the layers above need to know of a decision. Assumes nothing.
 use Prim.Native.Nat.{ℕ, _<_}
-use mathlib.Core.Bool.{Bool, true, false, not, _&&_, true≢false, false≢true}
+use mathlib.Core.Bool.{Bool, true, false, cond, not, _&&_, true≢false, false≢true}
 use mathlib.Core.List.{List}
-use mathlib.Core.Path.{_≡_, refl}
+use mathlib.Core.Path.{_≡_, refl, sym}
 use native.Mathlib.Omega.{arith}
 use borrow.Author.Tests.{not-true, eqb-true}
 use lib.Dec.{eqb}
@@ -93,19 +93,26 @@ pub others-open-none : (protocol : ℕ) (f : Flags) (sender : Sender) (i : Serve
 others-open-none protocol f Sender.Client i e = absurd (true≢false e)
 others-open-none protocol f (Sender.Server j) i e = refl
 
--- a packet that renews is a client's SYN: it opens by any protocol, and its RST is clear
-syn-opens : (protocol : ℕ) (f : Flags) (sender : Sender) → opensBy 6 f sender ≡ true → (opensBy protocol f sender ≡ true) × (f .rst ≡ false)
-syn-opens protocol f Sender.Client e =
-    let (ack, front) = both (not (f .ack)) (not (f .rst) && (not (f .fin) && f .syn)) e in
-    let (rst, rest) = both (not (f .rst)) (not (f .fin) && f .syn) front in
-    (by-test (λ b. b ≡ true) (eqb protocol 6) _ _ (λ _. e) (λ _. refl), not-true _ rst)
+-- a packet that opens is no RST of TCP
+pub opens-no-rst : (protocol : ℕ) (f : Flags) (sender : Sender) → opensBy protocol f sender ≡ true → (eqb protocol 6 && f .rst) ≡ false
+opens-no-rst protocol f (Sender.Server j) e = absurd (false≢true e)
+opens-no-rst protocol f Sender.Client e = by-flags (eqb protocol 6) (f .ack) (f .rst) (not (f .fin) && f .syn) e
+  where
+    by-flags : (tcp ack rst rest : Bool) → cond tcp (not ack && (not rst && rest)) true ≡ true → (tcp && rst) ≡ false
+    by-flags false ack rst rest e = refl
+    by-flags true ack false rest e = refl
+    by-flags true true true rest e = sym e
+    by-flags true false true rest e = sym e
+
+-- a packet that renews is a client's SYN: it opens by any protocol
+syn-opens : (protocol : ℕ) (f : Flags) (sender : Sender) → opensBy 6 f sender ≡ true → opensBy protocol f sender ≡ true
+syn-opens protocol f Sender.Client e = by-test (λ b. b ≡ true) (eqb protocol 6) _ _ (λ _. e) (λ _. refl)
 syn-opens protocol f (Sender.Server i) e = absurd (false≢true e)
 
 pub renewing : (protocol : ℕ) (m : Segment) (phase : ℕ) → renews m phase ≡ true → (phase ≡ 4) × (opens protocol m ≡ true) × (m .flags .rst ≡ false)
 renewing protocol m phase e =
     let (last, new) = both (eqb phase 4) (opens 6 m) e in
-    let (opens, rst) = syn-opens protocol (m .flags) (m .sender) new in
-    (eqb-true phase 4 last, opens, rst)
+    (eqb-true phase 4 last, syn-opens protocol (m .flags) (m .sender) new, opens-no-rst 6 (m .flags) (m .sender) new)
 
 -- 3. Room is asked for before a weight, and is there where a connection is renewed
 
