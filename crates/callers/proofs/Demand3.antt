@@ -10,7 +10,7 @@ use Rattle.audit.specs.Calls.{Call, setUp, AllFit, Fits, State as DirectorState
 use Rattle.audit.specs.Book.{Book}
 use Rattle.audit.specs.Claim.{refused, CallClaim, Claim as DirectorClaim}
 use Rattle.audit.proofs.Demand3.{demand3}
-use Rattle.nidhaaguf.specs.Reply.{toldBy}
+use Rattle.serving.specs.Told.{toldBy}
 use Rattle.callers.specs.Calls.{Handed, decodedState, handedOn, afterCalls, seenRecord}
 use Rattle.callers.specs.Claim.{Claim, Demand3}
 use Rattle.callers.proofs.Seen.{called-tells, seen-called}

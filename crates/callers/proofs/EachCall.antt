@@ -10,7 +10,7 @@ use Rattle.audit.specs.Demand2.{ResultClaim, Alike}
 use Rattle.audit.specs.Demand1.{RefusalClaim, numberGiven}
 use Rattle.audit.proofs.Demand1.{Other, demand1, nothing-changed}
 use Rattle.audit.proofs.Demand2.{demand2}
-use Rattle.nidhaaguf.specs.Reply.{toldBy}
+use Rattle.serving.specs.Told.{toldBy}
 use Rattle.callers.specs.Calls.{decodedState, replyTo, seen}
 use Rattle.callers.specs.Claim.{Demand1, Demand2}
 use Rattle.callers.proofs.Seen.{seen-called}

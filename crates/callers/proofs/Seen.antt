@@ -29,7 +29,7 @@ use Rattle.director.specs.Packets.{routed, onClock, onSeen, packetHeld, packetO
 use Rattle.audit.specs.Calls.{Call, setUp, setWeight, count, tick, packet, Fits, packetIn, State as DirectorState, called}
 use Rattle.audit.proofs.Numbers.{each-refusal}
 use Rattle.audit.proofs.Leaving.{called-leaves}
-use Rattle.nidhaaguf.specs.Reply.{toldBy}
+use Rattle.serving.specs.Told.{toldBy}
 use Rattle.nidhaaguf.proofs.Handed.{handed-on}
 use Rattle.callers.specs.Calls.{Handed, decodedState, answerOf, seen}
 

@@ -11,4 +11,5 @@ pub mod Feasible
 pub mod Carried
 pub mod KeepingPackets
 pub mod Idle
+pub mod Staying
 pub mod Laws

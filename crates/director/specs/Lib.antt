@@ -7,4 +7,5 @@ pub mod Segment
 pub mod Decide
 pub mod Carry
 pub mod Packets
+pub mod Current
 pub mod Laws

@@ -51,6 +51,13 @@ changesNothing (Answer.Number n) = false
 changesNothing (Answer.Passed i change) = false
 changesNothing (Answer.Refused why) = not (keepsClock why)
 
+-- an answer that is no refusal
+abbrev pub isAccepted : Answer → Bool
+isAccepted Answer.Done = true
+isAccepted (Answer.Number n) = true
+isAccepted (Answer.Passed i change) = true
+isAccepted (Answer.Refused why) = false
+
 -- the state with other servers and another walk
 abbrev pub withServers : Director → List Server → Walk → Director
 withServers d servers walk = record { service = d .service; servers = servers; walk = walk; clock = d .clock }

@@ -18,6 +18,7 @@ ghost use Rattle.table.specs.Slots.{slots};
 ghost use Rattle.director.specs.State.{lent, result, inWords};
 ghost use Rattle.director.specs.Judge.{soundOf};
 ghost use Rattle.director.specs.Packets.{routed, packetHeld, packetOf};
+ghost use Rattle.director.specs.Current.{Current};
 ghost use Rattle.director.specs.declared.state.Way.{Way};
 
 // A packet that got past 11: its refusal, 12 to 14, or what becomes of its connection.
@@ -50,6 +51,17 @@ fn packet_sound(
             let present = settled.director;
             route(present, row, packet, segment)
         }
+    }
+}
+
+// A packet call of a current state at its clock: there is nothing to judge and nothing to remove.
+pub fn take_current(way: Way, director: Director, row: &mut [u32], packet: &mut [u8]) -> Outcome
+    requires { ⌜ Current director (now row) ⌝ }
+    ensures { λ r. ⌜ result r (now (row .exit)) (now (packet .exit)) ≡ packetOf way director (now (row .entry)) (now (packet .entry)) (director .clock) ⌝ }
+{
+    match read_segment(way, director, packet) {
+        Seen::Refused(why) => refuse(director, why),
+        Seen::Segment(segment) => route(director, row, packet, segment),
     }
 }
 

@@ -5,26 +5,12 @@ use mathlib.Core.List.{List}
 use mathlib.Core.Path.{_≡_}
 use Rattle.director.specs.declared.state.Director.{Director}
 use Rattle.director.specs.declared.state.Answer.{Answer}
-use Rattle.director.specs.declared.state.Change.{Change}
-use Rattle.director.specs.State.{refusalNumber, changesNothing, Lent, lent, Result}
+use Rattle.director.specs.State.{changesNothing, Lent, lent, Result}
+use Rattle.serving.specs.declared.told.Told.{Told}
+use Rattle.serving.specs.Told.{toldBy}
 use Rattle.nidhaaguf.specs.declared.state.State.{State}
 use Rattle.nidhaaguf.specs.declared.reply.Reply.{Reply}
-use Rattle.nidhaaguf.specs.declared.reply.Told.{Told}
 use Rattle.nidhaaguf.specs.State.{decoded, encoded}
-
--- "one of: opened .., ended .., kept" (SCOPE 7.9)
-abbrev pub changeNumber : Change → ℕ
-changeNumber Change.Opened = 1
-changeNumber Change.Kept = 2
-changeNumber Change.Ended = 3
-
--- an answer in numbers: 0 for an accepted call, or the refusal; the number is the count, or how many connections the tick removed, or the
--- packet's server. "A refusal's answer is its number alone" (SCOPE 5.5)
-abbrev pub toldBy : Answer → Told
-toldBy Answer.Done = record { refusal = 0; number = 0; change = 0 }
-toldBy (Answer.Number n) = record { refusal = 0; number = n; change = 0 }
-toldBy (Answer.Passed i change) = record { refusal = 0; number = i .0; change = changeNumber change }
-toldBy (Answer.Refused why) = record { refusal = refusalNumber why; number = 0; change = 0 }
 
 -- what is told, with "the state .. beside it" (SCOPE 5.5)
 abbrev pub beside : State → Told → Reply

@@ -1,4 +1,4 @@
-// The director's six calls for C and Rust: the state by value as plain numbers (include/nidhaaguf.h), row and packet lent.
+// The director's six calls and the burst for C and Rust: the state by value as plain numbers (include/nidhaaguf.h), row and packets lent.
 // Each call decodes the state, calls the director and replies in numbers (SCOPE section 4). No call requires anything of its arguments.
 pub mod reply;
 pub mod state;
@@ -13,6 +13,7 @@ use director::tick::tick;
 use reply::Reply;
 use reply::reply_of;
 use servers::ServerNo;
+use serving::burst::burst;
 use state::Servers;
 use state::State;
 use state::decode;
@@ -23,8 +24,10 @@ ghost use Rattle.director.specs.Control.{weightOf, countCallOf};
 ghost use Rattle.director.specs.Tick.{tickOf};
 ghost use Rattle.director.specs.Packets.{packetOf};
 ghost use Rattle.director.specs.declared.state.Way.{Way};
+ghost use Rattle.serving.specs.Burst.{burstCallOf};
 ghost use Rattle.nidhaaguf.specs.State.{decoded};
 ghost use Rattle.nidhaaguf.specs.Reply.{replied, exported};
+ghost use Rattle.nidhaaguf.specs.Burst.{burstReplied, burstExported};
 
 // Sets up the service over the given servers.
 #[no_mangle]
@@ -96,5 +99,22 @@ pub extern "C" fn nidhaaguf_outbound(
     reply_of(
         state.place,
         take_packet(Way::Outbound, decode(state), row, packet, clock),
+    )
+}
+
+// Moves the clock on, then takes the packets of a buffer at that clock, each by the call that its destination asks for.
+#[no_mangle]
+pub extern "C" fn nidhaaguf_burst(
+    state: State,
+    row: &mut [u32],
+    packets: &mut [u8],
+    records: &mut [u32],
+    clock: u32,
+) -> Reply
+    ensures { λ r. ⌜ burstReplied r (now (row .exit)) (now (packets .exit)) (now (records .exit)) ≡ burstExported state (burstCallOf (decoded state) (now (row .entry)) (now (packets .entry)) (now (records .entry)) clock) ⌝ }
+{
+    reply_of(
+        state.place,
+        burst(decode(state), row, packets, records, clock),
     )
 }

@@ -2,15 +2,14 @@
 use crate::state::State;
 use crate::state::encode;
 use director::number::keeps_clock;
-use director::number::refusal_number;
 use director::state::Answer;
-use director::state::Change;
 use director::state::Director;
 use director::state::Outcome;
+use serving::told::told_by;
 ghost use mathlib.Core.Path.{_≡_};
 ghost use Rattle.director.specs.State.{changesNothing};
 ghost use Rattle.nidhaaguf.specs.declared.state.State.{State};
-ghost use Rattle.nidhaaguf.specs.Reply.{changeNumber, toldBy, stateAfter, replyOf, HandedIn};
+ghost use Rattle.nidhaaguf.specs.Reply.{stateAfter, replyOf, HandedIn};
 
 // NidhaagufAnswer: the state after a call and its answer, 816 bytes.
 #[repr(C)]
@@ -24,24 +23,6 @@ pub struct Reply {
     pub change: u32,
 }
 
-// What an answer tells: a reply without the state.
-struct Told {
-    refusal: u32,
-    number: u32,
-    change: u32,
-}
-
-// The number of a connection's change.
-fn change_number(change: Change) -> u32
-    ensures { λ r. ⌜ r ≡ changeNumber change ⌝ }
-{
-    match change {
-        Change::Opened => 1,
-        Change::Kept => 2,
-        Change::Ended => 3,
-    }
-}
-
 // Whether an answer is a refusal that changes nothing.
 fn changes_nothing(answer: Answer) -> bool
     ensures { λ r. ⌜ r ≡ changesNothing answer ⌝ }
@@ -51,34 +32,6 @@ fn changes_nothing(answer: Answer) -> bool
         Answer::Number(_) => false,
         Answer::Passed(_, _) => false,
         Answer::Refused(why) => !keeps_clock(why),
-    }
-}
-
-// An answer in numbers.
-fn told_by(answer: Answer) -> Told
-    ensures { λ r. ⌜ r ≡ toldBy answer ⌝ }
-{
-    match answer {
-        Answer::Done => Told {
-            refusal: 0,
-            number: 0,
-            change: 0,
-        },
-        Answer::Number(number) => Told {
-            refusal: 0,
-            number,
-            change: 0,
-        },
-        Answer::Passed(no, change) => Told {
-            refusal: 0,
-            number: no.0,
-            change: change_number(change),
-        },
-        Answer::Refused(why) => Told {
-            refusal: refusal_number(why) as u32,
-            number: 0,
-            change: 0,
-        },
     }
 }
 

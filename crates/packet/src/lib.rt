@@ -1,4 +1,4 @@
 // IPv4 packets with TCP or UDP in them: reading one, and redirecting one in place.
-mod bytes;
+pub mod bytes;
 pub mod read;
 pub mod redirect;

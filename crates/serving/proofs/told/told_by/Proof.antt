@@ -1,8 +1,8 @@
--- `reply::told_by` meets its contract: each arm rewrites with the answer that led there and what its call ensures.
+-- `told::told_by` meets its contract: each arm rewrites with the answer that led there and what its call ensures.
 -- Assumes nothing.
 use borrow.Author.Needs.{needs}
-use Rattle.nidhaaguf.proofs.reply.told_by.Statement.{statement}
-use Rattle.nidhaaguf.proofs.reply.told_by.Tie as tie
+use Rattle.serving.proofs.told.told_by.Statement.{statement}
+use Rattle.serving.proofs.told.told_by.Tie as tie
 
 returns : tie.Need-returns
 returns c = simp (c .enum-told .given .1)

@@ -1,0 +1,27 @@
+-- Refusals have numbers up to 15. Assumes nothing.
+use Prim.Native.Nat.{ℕ, _≤_}
+use native.Mathlib.Omega.{arith}
+use Rattle.packet.specs.declared.read.Fault.{Fault}
+use Rattle.packet.specs.Reading.{faultNumber}
+use Rattle.director.specs.declared.state.Refusal.{Refusal}
+use Rattle.director.specs.State.{refusalNumber}
+
+fault-most : (f : Fault) → faultNumber f ≤ 15
+fault-most Fault.MalformedHeader = omega arith
+fault-most Fault.Fragment = omega arith
+fault-most Fault.OtherProtocol = omega arith
+fault-most Fault.MalformedTransport = omega arith
+
+pub refusal-most : (why : Refusal) → refusalNumber why ≤ 15
+refusal-most Refusal.Size = omega arith
+refusal-most Refusal.Service = omega arith
+refusal-most Refusal.ServerUnset = omega arith
+refusal-most Refusal.ServerRepeated = omega arith
+refusal-most Refusal.NoServer = omega arith
+refusal-most (Refusal.Packet fault) = fault-most fault
+refusal-most Refusal.OtherEndpoint = omega arith
+refusal-most Refusal.EarlierClock = omega arith
+refusal-most Refusal.NoConnection = omega arith
+refusal-most Refusal.TableFull = omega arith
+refusal-most Refusal.NoWeight = omega arith
+refusal-most Refusal.Unsound = omega arith

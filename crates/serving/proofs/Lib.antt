@@ -1,0 +1,3 @@
+pub mod Bounds
+pub mod Standings
+pub mod Bursts
