@@ -6,7 +6,7 @@ use lib.Dec.{eqb}
 use lib.ListN.{length, getD}
 use Rattle.servers.specs.declared.Server.{Server}
 use Rattle.servers.specs.declared.ServerNo.{ServerNo}
-use Rattle.servers.specs.Servers.{serverAt, countAt, raised}
+use Rattle.servers.specs.Servers.{serverAt, countAt}
 use Rattle.scheduler.specs.declared.walk.Walk.{Walk}
 use Rattle.packet.specs.declared.redirect.Side.{Side}
 use Rattle.packet.specs.Redirect.{redirected, Redirectable}
@@ -17,11 +17,10 @@ use Rattle.director.specs.declared.state.Service.{Service}
 use Rattle.director.specs.declared.state.Director.{Director}
 use Rattle.director.specs.declared.state.Change.{Change}
 use Rattle.director.specs.declared.state.Answer.{Answer}
-use Rattle.director.specs.declared.state.Outcome.{Outcome}
 use Rattle.director.specs.declared.segment.Sender.{Sender}
 use Rattle.director.specs.declared.segment.Segment.{Segment}
 use Rattle.director.specs.declared.decide.Decision.{Decision}
-use Rattle.director.specs.State.{withServers, withOneLess, Lent, withTable, withPacket, Held, refusal}
+use Rattle.director.specs.State.{withOneLess, withOneMore, Lent, withTable, withPacket, Held, refusal}
 
 -- "An inbound FIN moves 1 to 2 and 3 to 4; outbound moves 1 to 3 and 2 to 4." (SCOPE 8.7)
 abbrev pub phaseOnFin : ℕ → Sender → ℕ
@@ -47,9 +46,6 @@ abbrev pub forwarded : Director → ℕ → List ℕ → Sender → List ℕ
 forwarded d k p sender = sentOn (d .service) (serverAt (d .servers) k) p sender
 
 -- an accepted packet of server no: "return the server number and one of: opened .., ended .., kept" (SCOPE 7.9)
-abbrev pub passedBy : Director → ServerNo → Change → Outcome
-passedBy d i change = record { answer = Answer.Passed i change; director = d }
-
 abbrev pub passed : Director → Lent (List Slot) → Segment → ServerNo → Change → Held
 passed d x m i change =
     record { answer = Answer.Passed i change; director = d; lent = withPacket x (forwarded d (i .0) (x .packet) (m .sender)) }
@@ -69,7 +65,7 @@ endedHeld d x m k =
 -- opened: "phase 1, last-seen the clock, server's count plus 1" (SCOPE 8.4)
 abbrev pub openedHeld : Director → Lent (List Slot) → Segment → ℕ → ServerNo → Walk → Held
 openedHeld d x m k i walk =
-    passed (withServers d (raised (d .servers) (i .0)) walk) (withTable x (opened (x .table) k (m .address) (m .port) (i .0) (d .clock))) m i Change.Opened
+    passed (withOneMore d (i .0) walk) (withTable x (opened (x .table) k (m .address) (m .port) (i .0) (d .clock))) m i Change.Opened
 
 -- renewed: an opening in the state that the ending of the connection in slot old leaves
 abbrev pub renewedHeld : Director → Lent (List Slot) → Segment → (old k : ℕ) → ServerNo → Walk → Held

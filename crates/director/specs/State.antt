@@ -1,10 +1,10 @@
 -- The numbers of refusals (SCOPE section 4), the result of a call, and a state with other servers. Assumes nothing: these are definitions.
-use Prim.Native.Nat.{ℕ}
+use Prim.Native.Nat.{ℕ, _<_, _≤_}
 use mathlib.Core.Bool.{Bool, true, false, not}
 use mathlib.Core.List.{List}
 use Rattle.packet.specs.Reading.{faultNumber}
 use Rattle.servers.specs.declared.Server.{Server}
-use Rattle.servers.specs.Servers.{lowered}
+use Rattle.servers.specs.Servers.{countAt, lowered, raised}
 use Rattle.scheduler.specs.declared.walk.Walk.{Walk}
 use Rattle.table.specs.declared.slot.Slot.{Slot}
 use Rattle.table.specs.Slots.{slots, words}
@@ -12,6 +12,8 @@ use Rattle.director.specs.declared.state.Director.{Director}
 use Rattle.director.specs.declared.state.Refusal.{Refusal}
 use Rattle.director.specs.declared.state.Answer.{Answer}
 use Rattle.director.specs.declared.state.Outcome.{Outcome}
+use Rattle.director.specs.declared.state.Shift.{Shift}
+use Rattle.director.specs.declared.state.Carried.{Carried}
 
 -- "Numbers given on refusal" (SCOPE section 4)
 abbrev pub refusalNumber : Refusal → ℕ
@@ -65,6 +67,28 @@ withServers d servers walk = record { service = d .service; servers = servers; w
 -- the state with one connection less on server i
 abbrev pub withOneLess : Director → ℕ → Director
 withOneLess d i = withServers d (lowered (d .servers) i) (d .walk)
+
+-- the state with one connection more on server i, and another walk
+abbrev pub withOneMore : Director → ℕ → Walk → Director
+withOneMore d i walk = withServers d (raised (d .servers) i) walk
+
+-- the state with what a packet changes of it
+abbrev pub shifted : Director → Shift → Director
+shifted d Shift.Same = d
+shifted d (Shift.Less i) = withOneLess d (i .0)
+shifted d (Shift.More i walk) = withOneMore d (i .0) walk
+shifted d (Shift.Moved from to walk) = withOneMore (withOneLess d (from .0)) (to .0) walk
+
+-- where that can be done: a count falls from 1 or more, and rises to what a number of 32 bits holds
+abbrev pub CanShift : Director → Shift → Type 0
+CanShift d Shift.Same = Unit {0}
+CanShift d (Shift.Less i) = 1 ≤ countAt (d .servers) (i .0)
+CanShift d (Shift.More i walk) = countAt (d .servers) (i .0) < 4294967295
+CanShift d (Shift.Moved from to walk) = (1 ≤ countAt (d .servers) (from .0)) × (countAt (lowered (d .servers) (from .0)) (to .0) < 4294967295)
+
+-- what a packet came to, with the state after it
+abbrev pub carriedBy : Director → Carried → Outcome
+carriedBy d c = record { answer = c .answer; director = shifted d (c .shift) }
 
 -- what a call is lent: the connection table, and the packet (none in a call that takes none)
 pub record Lent (T : Type 0) : Type 0 where

@@ -3,19 +3,17 @@ use crate::decide::Decision;
 use crate::segment::Segment;
 use crate::segment::Sender;
 use crate::state::Answer;
+use crate::state::Carried;
 use crate::state::Change;
 use crate::state::Director;
-use crate::state::Outcome;
 use crate::state::Service;
-use crate::state::refuse;
-use crate::state::with_one_less;
-use crate::state::with_servers;
+use crate::state::Shift;
+use crate::state::decline;
 use packet::redirect::Side;
 use packet::redirect::redirect_packet;
 use scheduler::walk::Walk;
 use servers::Server;
 use servers::ServerNo;
-use servers::raise;
 use servers::server_at;
 use table::change::free_slot;
 use table::change::open_slot;
@@ -24,14 +22,12 @@ use table::slot::SlotNo;
 use table::slot::server_no_at;
 use table::slot::slot_at;
 ghost use mathlib.Core.Path.{_≡_};
-ghost use Prim.Native.Nat.{_<_, _≤_, _/_};
-ghost use lib.ListN.{length};
-ghost use Rattle.servers.specs.Servers.{countAt};
 ghost use Rattle.packet.specs.Redirect.{Redirectable};
-ghost use Rattle.table.specs.Slots.{wordsPerSlot, slots, words, slotAt, IsRow};
+ghost use Rattle.table.specs.Slots.{slots, words, slotAt};
 ghost use Rattle.table.specs.Changes.{freed};
-ghost use Rattle.director.specs.State.{withOneLess, lent, result, inWords};
-ghost use Rattle.director.specs.Carry.{phaseOf, sentOn, forwarded, passedBy, keptHeld, endedHeld, openedHeld, renewedHeld, carriedOut, Ready, EndReady, OpenReady, Feasible};
+ghost use Rattle.director.specs.State.{withOneLess, CanShift, carriedBy, lent, result, inWords};
+ghost use Rattle.director.specs.declared.state.Answer.{Answer};
+ghost use Rattle.director.specs.Carry.{phaseOf, sentOn, forwarded, keptHeld, endedHeld, openedHeld, renewedHeld, carriedOut, Ready, EndReady, OpenReady, Feasible};
 
 // The phase after a packet of a connection.
 fn phase_after(phase: u32, fin: bool, sender: Sender) -> u32
@@ -81,25 +77,27 @@ fn forward(packet: &mut [u8], service: Service, server: Server, sender: Sender)
     }
 }
 
-// An accepted packet of server `no`.
+// An accepted packet of server `no`, and what it changes of the state.
 fn pass(
     director: Director,
     packet: &mut [u8],
     segment: Segment,
     no: ServerNo,
     change: Change,
-) -> Outcome
+    shift: Shift,
+) -> Carried
     requires { ⌜ Redirectable (director .service .protocol) (now packet) ⌝ }
     ensures packet { λ r. ⌜ now (packet .exit) ≡ forwarded director (no .0) (now (packet .entry)) (segment .sender) ⌝ }
-    ensures outcome { λ r. ⌜ r ≡ passedBy director no change ⌝ }
+    ensures answer { λ r. ⌜ r .answer ≡ Answer.Passed no change ⌝ }
+    ensures shift { λ r. ⌜ r .shift ≡ shift ⌝ }
 {
     let service = director.service;
     let servers = director.servers;
     let sender = segment.sender;
     forward(packet, service, server_at(servers, no), sender);
-    Outcome {
+    Carried {
         answer: Answer::Passed(no, change),
-        director,
+        shift,
     }
 }
 
@@ -110,9 +108,10 @@ fn keep(
     packet: &mut [u8],
     segment: Segment,
     k: SlotNo,
-) -> Outcome
+) -> Carried
     requires { ⌜ Ready director (now row) (now packet) (k .0) ⌝ }
-    ensures { λ r. ⌜ result r (now (row .exit)) (now (packet .exit)) ≡ inWords (keptHeld director (lent (slots (now (row .entry))) (now (packet .entry))) segment (k .0)) ⌝ }
+    ensures can { λ r. ⌜ CanShift director (r .shift) ⌝ }
+    ensures carried { λ r. ⌜ result (carriedBy director r) (now (row .exit)) (now (packet .exit)) ≡ inWords (keptHeld director (lent (slots (now (row .entry))) (now (packet .entry))) segment (k .0)) ⌝ }
 {
     let slot = slot_at(row, k);
     let no = slot.server;
@@ -120,19 +119,7 @@ fn keep(
     let flags = segment.flags;
     let phase = phase_after(slot.phase, flags.fin, sender);
     touch_slot(row, k, phase, director.clock);
-    pass(director, packet, segment, no, Change::Kept)
-}
-
-// The connection in slot `k` is taken off: the slot becomes free, and its server has one less.
-fn take_off(director: Director, row: &mut [u32], k: SlotNo) -> Director
-    requires { ⌜ IsRow (now row) × (k .0 < length (now row) / wordsPerSlot) ⌝ }
-    requires { ⌜ 1 ≤ countAt (director .servers) (slotAt (now row) (k .0) .server .0) ⌝ }
-    ensures state { λ r. ⌜ r ≡ withOneLess director (slotAt (now (row .entry)) (k .0) .server .0) ⌝ }
-    ensures row { λ r. ⌜ now (row .exit) ≡ words (freed (slots (now (row .entry))) (k .0)) ⌝ }
-{
-    let no = server_no_at(row, k);
-    free_slot(row, k);
-    with_one_less(director, no)
+    pass(director, packet, segment, no, Change::Kept, Shift::Same)
 }
 
 // The packet's connection, in slot `k`, is ended.
@@ -142,13 +129,21 @@ fn end(
     packet: &mut [u8],
     segment: Segment,
     k: SlotNo,
-) -> Outcome
+) -> Carried
     requires { ⌜ EndReady director (now row) (now packet) (k .0) ⌝ }
-    ensures { λ r. ⌜ result r (now (row .exit)) (now (packet .exit)) ≡ inWords (endedHeld director (lent (slots (now (row .entry))) (now (packet .entry))) segment (k .0)) ⌝ }
+    ensures can { λ r. ⌜ CanShift director (r .shift) ⌝ }
+    ensures carried { λ r. ⌜ result (carriedBy director r) (now (row .exit)) (now (packet .exit)) ≡ inWords (endedHeld director (lent (slots (now (row .entry))) (now (packet .entry))) segment (k .0)) ⌝ }
 {
     let no = server_no_at(row, k);
-    let after = take_off(director, row, k);
-    pass(after, packet, segment, no, Change::Ended)
+    free_slot(row, k);
+    pass(
+        director,
+        packet,
+        segment,
+        no,
+        Change::Ended,
+        Shift::Less(no),
+    )
 }
 
 // A connection of the packet's client to server `no` is opened in slot `k`.
@@ -160,14 +155,20 @@ fn open(
     k: SlotNo,
     no: ServerNo,
     walk: Walk,
-) -> Outcome
+) -> Carried
     requires { ⌜ OpenReady director (now row) (now packet) (k .0) (no .0) ⌝ }
-    ensures { λ r. ⌜ result r (now (row .exit)) (now (packet .exit)) ≡ inWords (openedHeld director (lent (slots (now (row .entry))) (now (packet .entry))) segment (k .0) no walk) ⌝ }
+    ensures can { λ r. ⌜ CanShift director (r .shift) ⌝ }
+    ensures carried { λ r. ⌜ result (carriedBy director r) (now (row .exit)) (now (packet .exit)) ≡ inWords (openedHeld director (lent (slots (now (row .entry))) (now (packet .entry))) segment (k .0) no walk) ⌝ }
 {
     open_slot(row, k, segment.address, segment.port, no, director.clock);
-    let servers = director.servers;
-    let after = with_servers(director, raise(servers, no), walk);
-    pass(after, packet, segment, no, Change::Opened)
+    pass(
+        director,
+        packet,
+        segment,
+        no,
+        Change::Opened,
+        Shift::More(no, walk),
+    )
 }
 
 // The connection in slot `old` ends, and one of the packet's client to server `no` is opened in slot `k`.
@@ -180,13 +181,23 @@ fn renew(
     k: SlotNo,
     no: ServerNo,
     walk: Walk,
-) -> Outcome
+) -> Carried
     requires { ⌜ EndReady director (now row) (now packet) (old .0) ⌝ }
     requires { ⌜ OpenReady (withOneLess director (slotAt (now row) (old .0) .server .0)) (words (freed (slots (now row)) (old .0))) (now packet) (k .0) (no .0) ⌝ }
-    ensures { λ r. ⌜ result r (now (row .exit)) (now (packet .exit)) ≡ inWords (renewedHeld director (lent (slots (now (row .entry))) (now (packet .entry))) segment (old .0) (k .0) no walk) ⌝ }
+    ensures can { λ r. ⌜ CanShift director (r .shift) ⌝ }
+    ensures carried { λ r. ⌜ result (carriedBy director r) (now (row .exit)) (now (packet .exit)) ≡ inWords (renewedHeld director (lent (slots (now (row .entry))) (now (packet .entry))) segment (old .0) (k .0) no walk) ⌝ }
 {
-    let ended = take_off(director, row, old);
-    open(ended, row, packet, segment, k, no, walk)
+    let from = server_no_at(row, old);
+    free_slot(row, old);
+    open_slot(row, k, segment.address, segment.port, no, director.clock);
+    pass(
+        director,
+        packet,
+        segment,
+        no,
+        Change::Opened,
+        Shift::Moved(from, no, walk),
+    )
 }
 
 // Carries out what was decided of a packet.
@@ -196,12 +207,13 @@ pub fn carry_out(
     packet: &mut [u8],
     segment: Segment,
     decision: Decision,
-) -> Outcome
+) -> Carried
     requires { ⌜ Feasible director (now row) (now packet) decision ⌝ }
-    ensures { λ r. ⌜ result r (now (row .exit)) (now (packet .exit)) ≡ inWords (carriedOut director (lent (slots (now (row .entry))) (now (packet .entry))) segment decision) ⌝ }
+    ensures can { λ r. ⌜ CanShift director (r .shift) ⌝ }
+    ensures carried { λ r. ⌜ result (carriedBy director r) (now (row .exit)) (now (packet .exit)) ≡ inWords (carriedOut director (lent (slots (now (row .entry))) (now (packet .entry))) segment decision) ⌝ }
 {
     match decision {
-        Decision::Refuse(why) => refuse(director, why),
+        Decision::Refuse(why) => decline(why),
         Decision::Keep(k) => keep(director, row, packet, segment, k),
         Decision::End(k) => end(director, row, packet, segment, k),
         Decision::Open(k, no, walk) => open(director, row, packet, segment, k, no, walk),

@@ -6,25 +6,29 @@ use crate::judge::is_sound;
 use crate::segment::Seen;
 use crate::segment::Segment;
 use crate::segment::read_segment;
+use crate::state::Carried;
 use crate::state::Director;
 use crate::state::Outcome;
 use crate::state::Refusal;
 use crate::state::Way;
+use crate::state::decline;
+use crate::state::outcome_of;
 use crate::state::refuse;
 ghost use mathlib.Core.Path.{_≡_};
 ghost use mathlib.Core.Bool.{true};
 ghost use Rattle.packet.specs.Redirect.{Redirectable};
 ghost use Rattle.table.specs.Slots.{slots};
-ghost use Rattle.director.specs.State.{lent, result, inWords};
+ghost use Rattle.director.specs.State.{CanShift, carriedBy, lent, result, inWords};
 ghost use Rattle.director.specs.Judge.{soundOf};
 ghost use Rattle.director.specs.Packets.{routed, packetHeld, packetOf};
 ghost use Rattle.director.specs.Current.{Current};
 ghost use Rattle.director.specs.declared.state.Way.{Way};
 
 // A packet that got past 11: its refusal, 12 to 14, or what becomes of its connection.
-fn route(director: Director, row: &mut [u32], packet: &mut [u8], segment: Segment) -> Outcome
+fn route(director: Director, row: &mut [u32], packet: &mut [u8], segment: Segment) -> Carried
     requires { ⌜ (soundOf director (now row) ≡ true) × Redirectable (director .service .protocol) (now packet) ⌝ }
-    ensures { λ r. ⌜ result r (now (row .exit)) (now (packet .exit)) ≡ inWords (routed director (lent (slots (now (row .entry))) (now (packet .entry))) segment) ⌝ }
+    ensures can { λ r. ⌜ CanShift director (r .shift) ⌝ }
+    ensures carried { λ r. ⌜ result (carriedBy director r) (now (row .exit)) (now (packet .exit)) ≡ inWords (routed director (lent (slots (now (row .entry))) (now (packet .entry))) segment) ⌝ }
 {
     let decision = decide(director, row, segment);
     carry_out(director, row, packet, segment, decision)
@@ -49,18 +53,20 @@ fn packet_sound(
             }
             let settled = settle(director, row, clock);
             let present = settled.director;
-            route(present, row, packet, segment)
+            let carried = route(present, row, packet, segment);
+            outcome_of(present, carried)
         }
     }
 }
 
 // A packet call of a current state at its clock: there is nothing to judge and nothing to remove.
-pub fn take_current(way: Way, director: Director, row: &mut [u32], packet: &mut [u8]) -> Outcome
+pub fn take_current(way: Way, director: Director, row: &mut [u32], packet: &mut [u8]) -> Carried
     requires { ⌜ Current director (now row) ⌝ }
-    ensures { λ r. ⌜ result r (now (row .exit)) (now (packet .exit)) ≡ packetOf way director (now (row .entry)) (now (packet .entry)) (director .clock) ⌝ }
+    ensures can { λ r. ⌜ CanShift director (r .shift) ⌝ }
+    ensures taken { λ r. ⌜ result (carriedBy director r) (now (row .exit)) (now (packet .exit)) ≡ packetOf way director (now (row .entry)) (now (packet .entry)) (director .clock) ⌝ }
 {
     match read_segment(way, director, packet) {
-        Seen::Refused(why) => refuse(director, why),
+        Seen::Refused(why) => decline(why),
         Seen::Segment(segment) => route(director, row, packet, segment),
     }
 }

@@ -4,10 +4,13 @@ use scheduler::walk::Walk;
 use servers::Server;
 use servers::ServerNo;
 use servers::lower;
+use servers::raise;
 ghost use mathlib.Core.Path.{_≡_};
-ghost use Prim.Native.Nat.{_≤_};
+ghost use Prim.Native.Nat.{_<_, _≤_};
 ghost use Rattle.servers.specs.Servers.{countAt};
-ghost use Rattle.director.specs.State.{refusedBy, withServers, withOneLess};
+ghost use Rattle.director.specs.declared.state.Answer.{Answer};
+ghost use Rattle.director.specs.declared.state.Shift.{Shift};
+ghost use Rattle.director.specs.State.{refusedBy, withServers, withOneLess, withOneMore, shifted, CanShift, carriedBy};
 
 // What the director serves: given by setup, and changed by nothing else.
 #[repr(C)]
@@ -86,6 +89,24 @@ pub struct Outcome {
     pub director: Director,
 }
 
+// What a packet changes of the state. It is said by itself because most packets change nothing, and the state is copied where it changes.
+pub enum Shift {
+    // nothing
+    Same,
+    // one connection less on a server
+    Less(ServerNo),
+    // one more on a server, and the walk after its pick
+    More(ServerNo, Walk),
+    // one less on the first and then one more on the second, and the walk after its pick
+    Moved(ServerNo, ServerNo, Walk),
+}
+
+// An answer, and what changes of the state.
+pub struct Carried {
+    pub answer: Answer,
+    pub shift: Shift,
+}
+
 // A refusal: the state as it is.
 pub fn refuse(director: Director, why: Refusal) -> Outcome
     ensures { λ r. ⌜ r ≡ refusedBy why director ⌝ }
@@ -93,6 +114,17 @@ pub fn refuse(director: Director, why: Refusal) -> Outcome
     Outcome {
         answer: Answer::Refused(why),
         director,
+    }
+}
+
+// A refusal of a packet: nothing changes.
+pub fn decline(why: Refusal) -> Carried
+    ensures answer { λ r. ⌜ r .answer ≡ Answer.Refused why ⌝ }
+    ensures shift { λ r. ⌜ r .shift ≡ Shift.Same ⌝ }
+{
+    Carried {
+        answer: Answer::Refused(why),
+        shift: Shift::Same,
     }
 }
 
@@ -117,4 +149,39 @@ pub fn with_one_less(director: Director, no: ServerNo) -> Director
     let servers = director.servers;
     let walk = director.walk;
     with_servers(director, lower(servers, no), walk)
+}
+
+// The state with one connection more on server `no`, and another walk.
+fn with_one_more(director: Director, no: ServerNo, walk: Walk) -> Director
+    requires { ⌜ countAt (director .servers) (no .0) < 4294967295 ⌝ }
+    ensures { λ r. ⌜ r ≡ withOneMore director (no .0) walk ⌝ }
+{
+    let servers = director.servers;
+    with_servers(director, raise(servers, no), walk)
+}
+
+// The state with what changes.
+pub fn apply_shift(director: Director, shift: Shift) -> Director
+    requires { ⌜ CanShift director shift ⌝ }
+    ensures { λ r. ⌜ r ≡ shifted director shift ⌝ }
+{
+    match shift {
+        Shift::Same => director,
+        Shift::Less(no) => with_one_less(director, no),
+        Shift::More(no, walk) => with_one_more(director, no, walk),
+        Shift::Moved(from, to, walk) => with_one_more(with_one_less(director, from), to, walk),
+    }
+}
+
+// An answer with the state after it beside it.
+pub fn outcome_of(director: Director, carried: Carried) -> Outcome
+    requires { ⌜ CanShift director (carried .shift) ⌝ }
+    ensures { λ r. ⌜ r ≡ carriedBy director carried ⌝ }
+{
+    let answer = carried.answer;
+    let shift = carried.shift;
+    Outcome {
+        answer,
+        director: apply_shift(director, shift),
+    }
 }

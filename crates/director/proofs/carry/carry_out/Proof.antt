@@ -24,7 +24,7 @@ returns c =
     let a = c .before .before .before .before .before .before in
     let kind = c .before .before .decision .given .1 in
     let row : IsRow (now (a .args .row)) = rw kind at (a .pre) in
-    simp (kind, c .refuse .ensures, words-slots (now (a .args .row)) (row .whole))
+    (rw (c .decline .ensures .1) tt, simp (kind, c .decline .ensures .0, c .decline .ensures .1, words-slots (now (a .args .row)) (row .whole)))
 
 returns-2 : tie.Need-returns-2
 returns-2 c = rw (c .before .before .before .before .before .before .before .before .decision2 .given .1) (c .before .before .before .before .keep .ensures)

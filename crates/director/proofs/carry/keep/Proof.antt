@@ -6,12 +6,16 @@ use Rattle.director.proofs.carry.keep.Tie as tie
 
 returns : tie.Need-returns
 returns c =
-    simp (
-      c .before .before .pass .ensures .0,
-      c .before .before .pass .ensures .1,
-      c .before .before .before .before .before .before .touch-slot .ensures,
-      c .before .before .before .before .before .before .before .before .phase-after .ensures,
-      c .before .before .before .before .before .before .before .before .before .before .before .slot-at .ensures,
+    let p = c .before .before in (
+      rw (p .pass .ensures .1 .1) tt,
+      simp (
+        p .pass .ensures .0,
+        p .pass .ensures .1 .0,
+        p .pass .ensures .1 .1,
+        p .before .before .before .before .touch-slot .ensures,
+        p .before .before .before .before .before .before .phase-after .ensures,
+        p .before .before .before .before .before .before .before .before .before .slot-at .ensures,
+      ),
     )
 
 pub keep-spec : {M : Type 1} → statement M

@@ -51,12 +51,16 @@ returns-2 c =
       sound-words (a .args .director) (now (a .args .row)) (a .pre),
     )
 
+outcome-of-requires : tie.Need-outcome-of-requires
+outcome-of-requires c κs = c .before .before .before .before .route .ensures .0
+
 returns-3 : tie.Need-returns-3
 unfolding packetHeld
 returns-3 c =
-    let s = c .before .before .before .before .before .before .before .before .before .before in
-    rw (← (s .before .before .before .before .before .before .before .read-segment .ensures), s .before .before .before .before .before .segment .given .1, le-ltb _ _ (s .before .before .if1 .left))
-    (rw (s .settle .ensures .0, s .settle .ensures .1 .0, slots-words) at (c .before .before .before .before .route .ensures))
+    let r = c .before .before .before .before .before in
+    let s = r .before .before .before .before .before .before in
+    rw (c .outcome-of .ensures, ← (s .before .before .before .before .before .before .before .read-segment .ensures), s .before .before .before .before .before .segment .given .1, le-ltb _ _ (s .before .before .if1 .left), s .settle .ensures .1 .0)
+    (rw (s .settle .ensures .0, s .settle .ensures .1 .0, slots-words) at (r .route .ensures .1))
 
 pub packet-sound-spec : {M : Type 1} → statement M
 packet-sound-spec =
@@ -71,6 +75,7 @@ packet-sound-spec =
     returns
     (λ c κs. search needs)
     route-requires
+    outcome-of-requires
     (λ c. search needs)
     returns-2
     (λ c. search needs)
