@@ -1,5 +1,6 @@
--- What a packet changes of the state is no matter to whom it is sent on: only counts and the walk change. Assumes nothing.
+-- What a packet changes of the state: nothing, or counts and the walk; that is no matter to whom it is sent on. Assumes nothing.
 use Prim.Native.Nat.{ℕ}
+use mathlib.Core.Bool.{true, false≢true}
 use mathlib.Core.List.{List}
 use mathlib.Core.Path.{_≡_, refl, _∙_}
 use Rattle.servers.specs.declared.Server.{Server}
@@ -17,8 +18,14 @@ use Rattle.director.specs.declared.state.Shift.{Shift}
 use Rattle.director.specs.declared.state.Carried.{Carried}
 use Rattle.director.specs.declared.segment.Sender.{Sender}
 use Rattle.director.specs.declared.segment.Segment.{Segment}
-use Rattle.director.specs.State.{withServers, shifted, carriedBy, Lent, result, inWords}
+use Rattle.director.specs.State.{withServers, isSame, shifted, carriedBy, Lent, result, inWords}
 use Rattle.director.specs.Carry.{sentOn, forwarded, passed}
+
+pub same-shifted : (d : Director) (s : Shift) → isSame s ≡ true → shifted d s ≡ d
+same-shifted d Shift.Same e = refl
+same-shifted d (Shift.Less i) e = absurd (false≢true e)
+same-shifted d (Shift.More i walk) e = absurd (false≢true e)
+same-shifted d (Shift.Moved from to walk) e = absurd (false≢true e)
 
 -- a packet is sent on by the server's address and port alone
 sent-same : (g : Service) (v w : Server) (p : List ℕ) (sender : Sender) → v .address ≡ w .address → v .port ≡ w .port → sentOn g v p sender ≡ sentOn g w p sender

@@ -72,6 +72,13 @@ withOneLess d i = withServers d (lowered (d .servers) i) (d .walk)
 abbrev pub withOneMore : Director → ℕ → Walk → Director
 withOneMore d i walk = withServers d (raised (d .servers) i) walk
 
+-- nothing changes
+abbrev pub isSame : Shift → Bool
+isSame Shift.Same = true
+isSame (Shift.Less i) = false
+isSame (Shift.More i walk) = false
+isSame (Shift.Moved from to walk) = false
+
 -- the state with what a packet changes of it
 abbrev pub shifted : Director → Shift → Director
 shifted d Shift.Same = d

@@ -10,7 +10,7 @@ ghost use Prim.Native.Nat.{_<_, _≤_};
 ghost use Rattle.servers.specs.Servers.{countAt};
 ghost use Rattle.director.specs.declared.state.Answer.{Answer};
 ghost use Rattle.director.specs.declared.state.Shift.{Shift};
-ghost use Rattle.director.specs.State.{refusedBy, withServers, withOneLess, withOneMore, shifted, CanShift, carriedBy};
+ghost use Rattle.director.specs.State.{refusedBy, withServers, withOneLess, withOneMore, isSame, shifted, CanShift, carriedBy};
 
 // What the director serves: given by setup, and changed by nothing else.
 #[repr(C)]
@@ -158,6 +158,18 @@ fn with_one_more(director: Director, no: ServerNo, walk: Walk) -> Director
 {
     let servers = director.servers;
     with_servers(director, raise(servers, no), walk)
+}
+
+// Whether nothing changes.
+pub fn is_same(shift: Shift) -> bool
+    ensures { λ r. ⌜ r ≡ isSame shift ⌝ }
+{
+    match shift {
+        Shift::Same => true,
+        Shift::Less(_) => false,
+        Shift::More(_, _) => false,
+        Shift::Moved(_, _, _) => false,
+    }
 }
 
 // The state with what changes.

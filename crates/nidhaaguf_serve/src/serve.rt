@@ -1,38 +1,42 @@
 // Packets taken from a descriptor and sent back to it.
 use director::packets::take_current;
 use director::state::Answer;
+use director::state::Carried;
 use director::state::Director;
-use director::state::Outcome;
+use director::state::Shift;
+use director::state::apply_shift;
+use director::state::is_same;
 use director::tick::tick;
 use serving::counters::count_answer;
 use serving::told::is_accepted;
 use serving::way::way_of;
 ghost use mathlib.Core.Path.{_≡_};
 ghost use Prim.Native.Nat.{_≤_};
-ghost use Rattle.director.specs.State.{result};
+ghost use Rattle.director.specs.State.{CanShift, shifted, carriedBy, result};
 ghost use Rattle.director.specs.Tick.{tickOf};
 ghost use Rattle.director.specs.Current.{Current};
 ghost use Rattle.serving.specs.Way.{wayOf, takenOf};
 ghost use Rattle.serving.specs.Counters.{counted};
 ghost use Rattle.serving.specs.Serve.{standing, Served, packetsAfter, afterTick};
 
-// One packet of a current state: the call it is given to, and the answer counted.
-pub fn take_counted(
+// One packet of a current state: the call that it is given to, and the answer counted.
+fn take_counted(
     director: Director,
     row: &mut [u32],
     packet: &mut [u8],
     counters: &mut [u64; 36],
-) -> Outcome
+) -> Carried
     requires { ⌜ Current director (now row) ⌝ }
-    ensures taken { λ r. ⌜ result r (now (row .exit)) (now (packet .exit)) ≡ takenOf director (now (row .entry)) (now (packet .entry)) ⌝ }
+    ensures can { λ r. ⌜ CanShift director (r .shift) ⌝ }
+    ensures taken { λ r. ⌜ result (carriedBy director r) (now (row .exit)) (now (packet .exit)) ≡ takenOf director (now (row .entry)) (now (packet .entry)) ⌝ }
     ensures counters { λ r. ⌜ now (counters .exit) ≡ counted (now (counters .entry)) (wayOf (director .service .address) (now (packet .entry))) (r .answer) ⌝ }
 {
     let service = director.service;
     let way = way_of(service.address, packet);
-    let outcome = take_current(way, director, row, packet);
-    let answer = outcome.answer;
+    let carried = take_current(way, director, row, packet);
+    let answer = carried.answer;
     count_answer(counters, way, answer);
-    outcome
+    carried
 }
 
 // Sends an accepted packet on: 1 where the device doesn't take it.
@@ -49,11 +53,11 @@ fn send(descriptor: i32, packet: &[u8], answer: Answer) -> u32
 }
 
 // What one read came to.
-struct Progress {
+struct Exchange {
     // packets taken, 0 or 1, and how many of them were accepted and not sent
     taken: u32,
     unsent: u32,
-    director: Director,
+    shift: Shift,
 }
 
 // Serves a packet.
@@ -63,19 +67,20 @@ fn serve_packet(
     row: &mut [u32],
     packet: &mut [u8],
     counters: &mut [u64; 36],
-) -> Progress
+) -> Exchange
     requires { ⌜ Current director (now row) ⌝ }
     ensures few { λ r. ⌜ (r .taken ≡ 1) × (r .unsent ≤ 1) ⌝ }
-    ensures served { λ r. ⌜ Served (standing director (now (row .entry)) (now (counters .entry))) (standing (r .director) (now (row .exit)) (now (counters .exit))) 1 ⌝ }
+    ensures can { λ r. ⌜ CanShift director (r .shift) ⌝ }
+    ensures served { λ r. ⌜ Served (standing director (now (row .entry)) (now (counters .entry))) (standing (shifted director (r .shift)) (now (row .exit)) (now (counters .exit))) 1 ⌝ }
 {
-    let outcome = take_counted(director, row, packet, counters);
-    let answer = outcome.answer;
-    let after = outcome.director;
+    let carried = take_counted(director, row, packet, counters);
+    let answer = carried.answer;
+    let shift = carried.shift;
     let unsent = send(descriptor, packet, answer);
-    Progress {
+    Exchange {
         taken: 1,
         unsent,
-        director: after,
+        shift,
     }
 }
 
@@ -86,28 +91,28 @@ fn turn(
     row: &mut [u32],
     buffer: &mut [u8],
     counters: &mut [u64; 36],
-) -> Progress
+) -> Exchange
     requires { ⌜ Current director (now row) ⌝ }
     ensures few { λ r. ⌜ (r .taken ≤ 1) × (r .unsent ≤ r .taken) ⌝ }
-    ensures served { λ r. ⌜ Served (standing director (now (row .entry)) (now (counters .entry))) (standing (r .director) (now (row .exit)) (now (counters .exit))) (r .taken) ⌝ }
+    ensures can { λ r. ⌜ CanShift director (r .shift) ⌝ }
+    ensures served { λ r. ⌜ Served (standing director (now (row .entry)) (now (counters .entry))) (standing (shifted director (r .shift)) (now (row .exit)) (now (counters .exit))) (r .taken) ⌝ }
 {
     let n = io::count(libc::read(descriptor, buffer), buffer);
     if n == 0 {
-        return Progress {
+        return Exchange {
             taken: 0,
             unsent: 0,
-            director,
+            shift: Shift::Same,
         };
     }
     serve_packet(descriptor, director, row, &mut buffer[..n], counters)
 }
 
-// What serving came to: the tick's answer, the packets taken, and how many of them were accepted and not sent.
-pub struct Serving {
-    pub answer: Answer,
-    pub taken: u32,
-    pub unsent: u32,
-    pub director: Director,
+// What many reads came to: the packets taken, and how many of them were accepted and not sent.
+struct Progress {
+    taken: u32,
+    unsent: u32,
+    director: Director,
 }
 
 // Serves a current state until a read gives nothing, or `most` packets.
@@ -128,9 +133,12 @@ fn serve_current(
     let mut unsent = 0;
     while taken < most {
         let done = turn(descriptor, present, row, buffer, counters);
-        let after = done.director;
-        present = after;
+        let shift = done.shift;
         unsent += done.unsent;
+        if !is_same(shift) {
+            let after = apply_shift(present, shift);
+            present = after;
+        }
         if done.taken == 0 {
             return Progress {
                 taken,
@@ -145,6 +153,14 @@ fn serve_current(
         unsent,
         director: present,
     }
+}
+
+// What serving came to: the tick's answer beside that.
+pub struct Serving {
+    pub answer: Answer,
+    pub taken: u32,
+    pub unsent: u32,
+    pub director: Director,
 }
 
 // Moves the clock on, as a tick does, and then serves packets at that clock, as single calls one after another would, until a

@@ -4,22 +4,27 @@ use crate::told::is_accepted;
 use crate::told::told_by;
 use crate::way::way_of;
 use director::packets::take_current;
+use director::state::Carried;
 use director::state::Director;
 use director::state::Outcome;
+use director::state::Shift;
+use director::state::apply_shift;
+use director::state::is_same;
 use director::tick::tick;
 ghost use mathlib.Core.Path.{_≡_};
 ghost use Prim.Native.Nat.{_+_, _*_, _<_, _≤_};
 ghost use lib.ListN.{length};
-ghost use Rattle.director.specs.State.{result};
+ghost use Rattle.director.specs.State.{CanShift, shifted, carriedBy, result};
 ghost use Rattle.director.specs.Current.{Current};
 ghost use Rattle.serving.specs.Way.{takenOf};
 ghost use Rattle.serving.specs.Burst.{packetsIn, lengthOf, recorded, bursting, burstStep, burstOf, burstResult, burstCallOf};
 
 // One packet of a current state, by the call that it is given to.
-fn take_one(director: Director, row: &mut [u32], packet: &mut [u8]) -> Outcome
+fn take_one(director: Director, row: &mut [u32], packet: &mut [u8]) -> Carried
     requires { ⌜ Current director (now row) ⌝ }
-    ensures current { λ r. ⌜ Current (r .director) (now (row .exit)) ⌝ }
-    ensures taken { λ r. ⌜ result r (now (row .exit)) (now (packet .exit)) ≡ takenOf director (now (row .entry)) (now (packet .entry)) ⌝ }
+    ensures can { λ r. ⌜ CanShift director (r .shift) ⌝ }
+    ensures current { λ r. ⌜ Current (shifted director (r .shift)) (now (row .exit)) ⌝ }
+    ensures taken { λ r. ⌜ result (carriedBy director r) (now (row .exit)) (now (packet .exit)) ≡ takenOf director (now (row .entry)) (now (packet .entry)) ⌝ }
 {
     let service = director.service;
     take_current(way_of(service.address, packet), director, row, packet)
@@ -53,18 +58,19 @@ fn burst_one(
     packets: &mut [u8],
     records: &mut [u32],
     k: usize,
-) -> Director
+) -> Shift
     requires { ⌜ Current director (now row) × (4 * k + 3 < length (now records)) × (2048 * k + 2048 ≤ length (now packets)) ⌝ }
-    ensures current { λ r. ⌜ Current r (now (row .exit)) ⌝ }
-    ensures taken { λ r. ⌜ bursting r (now (row .exit)) (now (packets .exit)) (now (records .exit)) ≡ burstStep (bursting director (now (row .entry)) (now (packets .entry)) (now (records .entry))) k ⌝ }
+    ensures can { λ r. ⌜ CanShift director r ⌝ }
+    ensures current { λ r. ⌜ Current (shifted director r) (now (row .exit)) ⌝ }
+    ensures taken { λ r. ⌜ bursting (shifted director r) (now (row .exit)) (now (packets .exit)) (now (records .exit)) ≡ burstStep (bursting director (now (row .entry)) (now (packets .entry)) (now (records .entry))) k ⌝ }
 {
     let n = length_of(records, k);
     let at = 2048 * k;
     let end = at + n;
-    let outcome = take_one(director, row, &mut packets[at..end]);
-    let answer = outcome.answer;
+    let carried = take_one(director, row, &mut packets[at..end]);
+    let answer = carried.answer;
     write_record(records, k, told_by(answer));
-    outcome.director
+    carried.shift
 }
 
 // How many packets there are.
@@ -90,8 +96,11 @@ fn burst_current(
     let mut present = director;
     let mut k = 0;
     while k < m {
-        let after = burst_one(present, row, packets, records, k);
-        present = after;
+        let shift = burst_one(present, row, packets, records, k);
+        if !is_same(shift) {
+            let after = apply_shift(present, shift);
+            present = after;
+        }
         k += 1;
     }
     present

@@ -26,13 +26,13 @@ returns c =
     let a = c .before .before .before .before .before .before .before .before in (
       rw (c .decline .ensures .1) tt,
       rw (taken-now (a .args .director) (now (a .args .row)) (a .pre) (a .args .way) (now (a .args .packet)))
-      (simp (
-        ← (c .before .before .before .before .read-segment .ensures),
-        c .before .before .why .given .1,
-        c .decline .ensures .0,
-        c .decline .ensures .1,
-        sound-words (a .args .director) (now (a .args .row)) (a .pre .sound),
-      )),
+          (simp (
+            ← (c .before .before .before .before .read-segment .ensures),
+            c .before .before .why .given .1,
+            c .decline .ensures .0,
+            c .decline .ensures .1,
+            sound-words (a .args .director) (now (a .args .row)) (a .pre .sound),
+          )),
     )
 
 returns-2 : tie.Need-returns-2
@@ -42,7 +42,7 @@ returns-2 c =
     let a = read .before .before .before .before in (
       r .route .ensures .0,
       rw (taken-now (a .args .director) (now (a .args .row)) (a .pre) (a .args .way) (now (a .args .packet)))
-      (rw (← (read .read-segment .ensures), r .before .before .before .before .segment .given .1) (r .route .ensures .1)),
+          (rw (← (read .read-segment .ensures), r .before .before .before .before .segment .given .1) (r .route .ensures .1)),
     )
 
 pub take-current-spec : {M : Type 1} → statement M

@@ -8,7 +8,7 @@ returns : tie.Need-returns
 returns c =
     let t = c .before .before .before .before .before .before in
     let way = t .before .before .before .way-of .ensures in
-    (rw (← way) (t .take-current .ensures), rw (← way) (c .count-answer .ensures))
+    (t .take-current .ensures .0, (rw (← way) (t .take-current .ensures .1), rw (← way) (c .count-answer .ensures)))
 
 pub take-counted-spec : {M : Type 1} → statement M
 take-counted-spec =

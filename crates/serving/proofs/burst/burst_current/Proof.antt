@@ -1,12 +1,16 @@
 -- `burst::burst_current` meets its contract. The loop's invariant: the packets so far are done.
 -- Assumes nothing.
 use Prim.Native.Nat.{_≤_, _-_, _/_}
-use mathlib.Core.Path.{_≡_}
+use mathlib.Core.Logic.{⊎-elim}
+use mathlib.Core.Path.{_≡_, sym, _∙_}
 use native.Mathlib.Omega.{arith}
+use borrow.Author.Tests.{not-false}
 use borrow.Author.Needs.{needs}
 use lib.ListN.{length}
 use Rattle.lists.proofs.Folds.{fold-none, fold-next, fold-done}
+use Rattle.director.specs.State.{shifted}
 use Rattle.director.specs.Current.{Current}
+use Rattle.director.proofs.Shifting.{same-shifted}
 use Rattle.serving.specs.Burst.{packetsIn, bursting, burstStep, burstOf}
 use Rattle.serving.proofs.burst.burst_current.Statement.{statement}
 use Rattle.serving.proofs.burst.burst_current.Tie as tie
@@ -41,10 +45,16 @@ burst-one-requires c κs =
 
 loop-again : tie.Need-loop-again Inv-loop μ-loop
 loop-again c =
-    let t = c .before .before .before .before .before .before in
-    let i = t .before .before .before .before .before .loop .inv in
+    let test = c .before in
+    let t = test .before .before .before .before .before .before .before in
+    let l = t .before .before .before .before .before .loop in
     let e = t .burst-one .ensures in
-    (search needs, search needs, search needs, search needs, search needs, search needs, e .0, rw (fold-next) (rw (← (i .7)) (e .1)))
+    let present : c .if1 .present ≡ shifted (l .present) (t .burst-one .result) =
+    ⊎-elim
+    (λ changed. changed .2 ∙ changed .1 .ensures)
+    (λ same. same .1 ∙ sym (same-shifted (l .present) (t .burst-one .result) (sym (test .is-same .ensures) ∙ not-false _ (same .0 .left))))
+    (c .if1 .came) in
+    (search needs, search needs, search needs, search needs, search needs, search needs, rw present (e .1 .0), rw (present, fold-next) (rw (← (l .inv .7)) (e .1 .1)))
 
 returns : tie.Need-returns Inv-loop μ-loop
 returns c =
@@ -60,6 +70,8 @@ burst-current-spec =
     (λ c κs. search needs)
     loop-holds
     burst-one-requires
+    (λ c κs. search needs)
+    (λ c κs. search needs)
     (λ c. search needs)
     (λ c. search needs)
     loop-again

@@ -7,10 +7,13 @@ use Rattle.serving.proofs.burst.burst_one.Tie as tie
 
 returns : tie.Need-returns
 returns c =
-    let w = c .before .before .before in
+    let w = c .before .before in
     let t = w .before .before .before .before .before .before .before in (
       t .take-one .ensures .0,
-      burst-step _ _ _ _ _ _ _ _ _ _ _ (t .before .before .before .length-of .ensures .0) (t .take-one .ensures .1) (w .before .told-by .ensures) (w .write-record .ensures),
+      (
+        t .take-one .ensures .1 .0,
+        burst-step _ _ _ _ _ _ _ _ _ _ _ (t .before .before .before .length-of .ensures .0) (t .take-one .ensures .1 .1) (w .before .told-by .ensures) (w .write-record .ensures),
+      ),
     )
 
 pub burst-one-spec : {M : Type 1} → statement M

@@ -17,8 +17,8 @@ returns c =
     let start = known .before .before in
     let a = start .args in
     let bytes : Bytes (now (a .packet)) = record { at = λ (i : ℕ). omega (arith, known .slice-known2 .given i) } in
-    let e = rw (w .way-of .ensures) at (t .take-current .ensures) in
-    (taken-current (a .director) (now (a .row)) (now (a .packet)) _ _ _ bytes (start .pre) e, e)
+    let e = rw (w .way-of .ensures) at (t .take-current .ensures .1) in
+    (t .take-current .ensures .0, (taken-current (a .director) (now (a .row)) (now (a .packet)) _ _ _ bytes (start .pre) e, e))
 
 pub take-one-spec : {M : Type 1} → statement M
 take-one-spec = tie.close (tie.spec (λ c κs. search needs) (λ c κs. search needs) (λ c. search needs) (λ c. search needs) returns)
