@@ -7,6 +7,7 @@ pub mod Routing
 pub mod Steps
 pub mod Leaving
 pub mod Demand3
+pub mod Many
 pub mod Exactly
 pub mod Demand1
 pub mod Published

@@ -1,6 +1,7 @@
 pub mod Calls
 pub mod Book
 pub mod Claim
+pub mod Many
 pub mod Demand1
 pub mod Demand2
 pub mod Cases

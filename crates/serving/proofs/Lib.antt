@@ -1,3 +1,5 @@
 pub mod Bounds
 pub mod Standings
 pub mod Bursts
+pub mod Lengths
+pub mod Turns

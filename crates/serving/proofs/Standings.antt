@@ -18,7 +18,7 @@ use Rattle.serving.specs.Way.{wayOf, takenOf}
 use Rattle.serving.specs.Counters.{counted}
 use Rattle.serving.specs.Serve.{Standing, standing, onceServed, servedBy, AllBytes, Served, packetsAfter, afterTick}
 
-append-bytes : (ps qs : List (List ℕ)) → AllBytes ps → AllBytes qs → AllBytes (ps ++ qs)
+pub append-bytes : (ps qs : List (List ℕ)) → AllBytes ps → AllBytes qs → AllBytes (ps ++ qs)
 append-bytes [] qs a b = b
 append-bytes (p ∷ ps) qs a b = (a .0, append-bytes ps qs (a .1) b)
 
@@ -26,7 +26,7 @@ append-length : (ps qs : List (List ℕ)) → length (ps ++ qs) ≡ length ps + 
 append-length [] qs = omega arith
 append-length (p ∷ ps) qs = omega (arith, append-length ps qs)
 
-served-append : (s : Standing) (ps qs : List (List ℕ)) → servedBy s (ps ++ qs) ≡ servedBy (servedBy s ps) qs
+pub served-append : (s : Standing) (ps qs : List (List ℕ)) → servedBy s (ps ++ qs) ≡ servedBy (servedBy s ps) qs
 unfolding servedBy
 served-append s [] qs = refl
 served-append s (p ∷ ps) qs = served-append (onceServed s p) ps qs

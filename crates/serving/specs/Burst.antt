@@ -1,6 +1,6 @@
 -- Packets in one lent buffer, taken one after another. Assumes nothing: these are definitions.
-use Prim.Native.Nat.{ℕ, _+_, _*_, _/_, min}
-use mathlib.Core.List.{List}
+use Prim.Native.Nat.{ℕ, zero, suc, _+_, _*_, _/_, min}
+use mathlib.Core.List.{List, [], _∷_, _++_}
 use lib.ListN.{length, getD, set, take, drop}
 use Rattle.lists.specs.Fold.{foldBelow}
 use Rattle.packet.specs.Bytes.{onPart}
@@ -30,6 +30,15 @@ packetsIn packets records = min (length packets / 2048) (length records / 4)
 -- the length of packet k: no more than its place holds
 abbrev pub lengthOf : (records : List ℕ) → ℕ → ℕ
 lengthOf records k = min (getD records (4 * k) 0) 2048
+
+-- packet k
+abbrev pub packetAt : (packets records : List ℕ) → ℕ → List ℕ
+packetAt packets records k = take (lengthOf records k) (drop (2048 * k) packets)
+
+-- the first m packets
+unfoldable pub packetsBelow : (packets records : List ℕ) → ℕ → List (List ℕ)
+packetsBelow packets records zero = []
+packetsBelow packets records (suc k) = packetsBelow packets records k ++ (packetAt packets records k ∷ [])
 
 -- the records with the answer to packet k
 abbrev pub recorded : (records : List ℕ) → ℕ → Told → List ℕ
