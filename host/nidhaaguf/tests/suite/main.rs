@@ -1,0 +1,6 @@
+//! The safe wrapper.
+
+mod bursts;
+mod director;
+mod serves;
+mod support;
