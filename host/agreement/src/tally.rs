@@ -148,6 +148,11 @@ fn name_of(place: usize) -> String {
 }
 
 impl Tally {
+    /// Whether it is possible, or was met though it isn't.
+    fn is_told(&self, call: usize, answer: usize) -> bool {
+        (self.is_possible)(call, answer) || self.cells[call][answer] > 0
+    }
+
     /// The calls that have any answer here.
     fn calls_told(&self) -> impl Iterator<Item = usize> + '_ {
         let has_answer =
@@ -164,12 +169,15 @@ impl fmt::Display for Tally {
         }
         writeln!(out, "{:>10}", "all")?;
         for answer in 0..ANSWERS {
+            if !self.calls_told().any(|call| self.is_told(call, answer)) {
+                continue;
+            }
             write!(out, "{:12}", name_of(answer))?;
             let mut all = 0;
             for call in self.calls_told() {
                 let times = self.cells[call][answer];
                 all += times;
-                match (self.is_possible)(call, answer) || times > 0 {
+                match self.is_told(call, answer) {
                     true => write!(out, "{times:>10}")?,
                     false => write!(out, "{:>10}", "-")?,
                 }

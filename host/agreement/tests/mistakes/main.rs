@@ -1,5 +1,6 @@
 //! Directors with a mistake: each must be found, its case shortened and replayed.
 
+mod many;
 mod packets;
 mod renewal;
 mod state;
