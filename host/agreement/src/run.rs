@@ -50,13 +50,13 @@ pub fn run(side: &dyn Side, seed: u64, calls: usize) -> Result<Met, Box<Failure<
     Ok(met)
 }
 
-/// Names the case when one of the sides panics in it.
-pub(crate) struct Naming(pub u64, pub u64);
+/// Names the case when one of the sides panics in it: the option that replays it, seed and number.
+pub(crate) struct Naming(pub &'static str, pub u64, pub u64);
 
 impl Drop for Naming {
     fn drop(&mut self) {
         if std::thread::panicking() {
-            eprintln!("a panic in --seed {} --case {}", self.0, self.1);
+            eprintln!("a panic in --seed {} --{} {}", self.1, self.0, self.2);
         }
     }
 }
@@ -68,7 +68,7 @@ pub fn run_case(
     number: u64,
     met: &mut Met,
 ) -> Result<(), Box<Failure<Call>>> {
-    let _naming = Naming(seed, number);
+    let _naming = Naming("case", seed, number);
     let mut case = Case::new(seed, number);
     let mut world = case.first.clone();
     let mut book = book_for(case.kind);

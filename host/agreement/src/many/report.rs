@@ -55,10 +55,7 @@ pub fn kept(calls: &[Many], places: &[usize]) -> Vec<Many> {
             }
             (call, Some(packet)) if last == Some(call) => {
                 let packet = calls[call].packets[packet].clone();
-                kept.iter_mut()
-                    .last()
-                    .into_iter()
-                    .for_each(|many| many.packets.push(packet.clone()));
+                kept.last_mut().expect("the packet's call").packets.push(packet);
             }
             _ => {}
         }

@@ -92,7 +92,7 @@ pub fn run_case(
     number: u64,
     met: &mut Met,
 ) -> Result<(), Box<Failure<Many>>> {
-    let _naming = Naming(seed, number);
+    let _naming = Naming("many", seed, number);
     let mut case = Case::new(seed, number);
     let mut world = case.first.clone();
     let mut calls = Vec::new();

@@ -3,4 +3,5 @@
 mod bursts;
 mod director;
 mod serves;
+mod signals;
 mod support;
