@@ -11,7 +11,7 @@ use std::time::Instant;
 
 fn main() -> ExitCode {
     let result = Options::read(std::env::args().skip(1)).and_then(|options| match options.cases {
-        Cases::All => all_calls(&options).and_then(|()| all_many(&options)),
+        Cases::All => all_cases(&options),
         Cases::Calls(case) => one_case(&options, case),
         Cases::Many(case) => one_case_of_many(&options, case),
     });
@@ -22,6 +22,16 @@ fn main() -> ExitCode {
             ExitCode::FAILURE
         }
     }
+}
+
+fn all_cases(options: &Options) -> Result<(), String> {
+    if options.calls > 0 {
+        all_calls(options)?;
+    }
+    if options.packets > 0 {
+        all_many(options)?;
+    }
+    Ok(())
 }
 
 fn all_calls(options: &Options) -> Result<(), String> {

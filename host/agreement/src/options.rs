@@ -4,8 +4,8 @@ pub const HELP: &str =
     "agreement [--calls N] [--packets N] [--seed S] [--case C | --many C [--only P,P,..]]
 
 Makes calls on the library and on the reference, and compares them: single calls, then bursts and serves.
-  --calls N   how many single calls, 2,500,000 if not given
-  --packets N how many packets in bursts and serves, 500,000 if not given
+  --calls N   how many single calls, 2,500,000 if not given; 0 for none
+  --packets N how many packets in bursts and serves, 500,000 if not given; 0 for none
   --seed S    where the random cases come from, 1 if not given
   --case C    only this case of single calls
   --many C    only this case of bursts and serves

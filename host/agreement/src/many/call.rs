@@ -78,7 +78,7 @@ impl Packet {
 impl Burst {
     /// The bytes that are lent, packet k at byte 2,048 k.
     pub fn lent_bytes(&self, packets: &[Packet]) -> Vec<u8> {
-        let mut bytes: Vec<u8> = packets.iter().flat_map(Packet::place).collect();
+        let mut bytes = packets.iter().map(Packet::place).collect::<Vec<_>>().concat();
         bytes.resize(bytes.len() + self.places * PLACE + self.bytes, FILLED_BYTE);
         bytes
     }
