@@ -47,19 +47,25 @@ fn a_signal_before_the_read_is_not_the_last() {
     });
 }
 
-/// Taken back while the read waits; what was served by then is there, and what comes later is served too.
+/// Taken back while the read waits; what was served by then is there, and what comes later is served too: more packets than
+/// one call takes.
 #[test]
 fn packets_are_served_before_and_after() {
     in_time(|| {
         let (mut packets, link) = thread_on_pair();
-        let mut instance = instance(Instant::now());
-        for port in 1..=20 {
-            packets.lend(instance);
+        let must_serve = |port| {
             link.send(&syn(port)).unwrap();
             assert_eq!(link.recv(&mut [0; 100]).unwrap(), syn(port).len());
-            instance = packets.take_back().0;
-            assert_eq!(instance.director().used(), u32::from(port));
+        };
+        packets.lend(instance(Instant::now()));
+        for port in 1..=20 {
+            must_serve(port);
+            let (instance, served) = packets.take_back();
+            assert_eq!((instance.director().used(), served), (u32::from(port), Ok(())));
+            packets.lend(instance);
         }
+        (1..=1_000).for_each(must_serve);
+        assert_eq!(packets.take_back().0.director().used(), 1_000);
     });
 }
 
