@@ -91,8 +91,14 @@ impl Daemon {
 
     /// Sends a signal by its name.
     pub fn signal(&self, name: &str) {
-        let process = self.child.id().to_string();
-        assert!(KILL.run(&["-s", name, &process]).status.success());
+        send_signal(name, &self.child.id().to_string());
+    }
+
+    /// Sends each of its threads a signal.
+    pub fn signal_threads(&self, name: &str) {
+        for thread in fs::read_dir(format!("/proc/{}/task", self.child.id())).unwrap() {
+            send_signal(name, thread.unwrap().file_name().to_str().unwrap());
+        }
     }
 
     /// The processor's time that it has taken, with all its threads.
@@ -120,6 +126,11 @@ impl Daemon {
         assert!(last.contains("; inbound ") && last.contains("; outbound "), "{log}");
         assert!(!PathBuf::from(socket).exists(), "the socket file is still there");
     }
+}
+
+/// To a process, or to a thread by its number.
+fn send_signal(name: &str, receiver: &str) {
+    assert!(KILL.run(&["-s", name, receiver]).status.success());
 }
 
 fn connect(socket: &str) -> UnixStream {

@@ -108,7 +108,7 @@ pub fn idle_daemon() {
 pub fn stray_signals() {
     let mut rig = Rig::start("signals");
     for _ in 0..50 {
-        rig.daemon.signal("URG");
+        rig.daemon.signal_threads("URG");
         rig.must_serve();
     }
     rig.daemon.end_by("TERM");
