@@ -12,9 +12,9 @@ use std::time::{Duration, Instant};
 
 /// Clients with a connection each, and so slots: the most that there can be.
 const CLIENTS: u16 = 4_096;
-/// Packets of a flood: more than the daemon takes, so that the device's queue is never empty; and not so many that to send them
-/// takes a processor of its own.
-const A_MILLISECOND: usize = 256;
+/// Packets of a flood in a row, about as many as one call takes; then it pauses for a millisecond, else to send them would
+/// take a processor of its own.
+const IN_A_ROW: usize = 256;
 /// Fewer than the device's queue takes.
 const BATCH: usize = 200;
 
@@ -48,7 +48,7 @@ fn under_a_flood<T>(link: &Link, packet: &[u8], work: impl FnOnce() -> T) -> T {
     std::thread::scope(|scope| {
         scope.spawn(|| {
             while !stop.load(Ordering::Relaxed) {
-                for _ in 0..A_MILLISECOND {
+                for _ in 0..IN_A_ROW {
                     // what the queue has no room for is lost, as it would be on any link
                     let _ = link.offer(packet);
                 }
