@@ -90,10 +90,14 @@ impl Connection {
         matches!(self.stage, Stage::Watching { .. })
     }
 
-    /// Whether it watches, has read all that was sent, and may not have seen the latest change.
+    /// Whether it watches, and has read all that was sent.
+    pub fn awaits_change(&self) -> bool {
+        self.is_watching() && self.output.is_empty()
+    }
+
+    /// Whether it awaits a change, and may not have seen the latest.
     pub fn is_behind(&self, latest: u64) -> bool {
-        self.output.is_empty()
-            && matches!(self.stage, Stage::Watching { seen, .. } if seen != latest)
+        self.awaits_change() && matches!(self.stage, Stage::Watching { seen, .. } if seen != latest)
     }
 
     /// Whether a watch has shown just that.
@@ -103,8 +107,7 @@ impl Connection {
 
     /// When it must have come further; a watch that has read all may wait as long as it likes.
     pub fn deadline(&self) -> Option<Instant> {
-        let waits = self.is_watching() && self.output.is_empty();
-        (!waits).then_some(self.deadline)
+        (!self.awaits_change()).then_some(self.deadline)
     }
 
     /// Whether it is to be closed.

@@ -1,4 +1,5 @@
-//! The control socket's clients, served between the packets with a bounded amount of work.
+//! The control socket's clients. To talk with them takes no director; an answer does, and is a bounded amount of work between
+//! two calls of the packet thread.
 
 use crate::commands::Command;
 use crate::connection::Connection;
@@ -13,9 +14,9 @@ use std::time::{Duration, Instant};
 const MOST_CONNECTIONS: usize = 16;
 /// Watchers at once: they stay, and must leave room for others.
 const MOST_WATCHERS: usize = 8;
-/// Clients let in between two rounds of packets.
+/// Clients let in before those that are in get their turn.
 const ACCEPTED_A_TURN: usize = 4;
-/// Watchers get the table at most so often, however fast it changes.
+/// So often the table is looked at for watchers, and they get it at most so often, however fast it changes.
 const BETWEEN_TABLES: Duration = Duration::from_millis(100);
 /// How long nobody is let in after that failed.
 const AFTER_FAILURE: Duration = Duration::from_secs(1);
@@ -44,32 +45,53 @@ impl Control {
     }
 
     /// How long until there is something to do even if nothing happens; None where there is nothing.
-    pub fn time_left(&self, instance: &Instance, now: Instant) -> Option<Duration> {
-        if self.connections.iter().any(Connection::has_command) {
+    pub fn time_left(&self, now: Instant) -> Option<Duration> {
+        if self.has_command() {
             return Some(Duration::ZERO);
         }
-        let behind = self.connections.iter().any(|client| client.is_behind(instance.changes()));
-        let table = behind.then_some(self.next_table);
         let accept = (self.next_accept > now).then_some(self.next_accept);
         let deadlines = self.connections.iter().filter_map(Connection::deadline);
-        let first = deadlines.chain(table).chain(accept).min()?;
+        let first = deadlines.chain(self.table_time()).chain(accept).min()?;
         Some(first.saturating_duration_since(now))
     }
 
-    /// Serves the clients for a turn; `files` is what [`add_waited`](Control::add_waited) added.
-    pub fn turn(&mut self, files: &[Waited], instance: &mut Instance, now: Instant) {
+    /// Reads and writes what is possible, and lets new clients in; `files` is what [`add_waited`](Control::add_waited) added.
+    pub fn exchange(&mut self, files: &[Waited], now: Instant) {
         let (socket, clients) = files.split_at(1);
         for (client, _) in
             self.connections.iter_mut().zip(clients).filter(|(_, file)| file.is_ready())
         {
             client.exchange();
         }
-        self.answer_one(instance, now);
-        self.show_table(instance, now);
-        self.connections.retain(|client| !client.is_over(now));
+        self.close(now);
         if socket[0].is_ready() {
             self.accept(now);
         }
+    }
+
+    /// Whether somebody waits for an answer, or it is time to look at the table for the watchers.
+    pub fn needs_director(&self, now: Instant) -> bool {
+        self.has_command() || self.table_time().is_some_and(|time| time <= now)
+    }
+
+    /// Answers a command, and shows the table to the watchers.
+    pub fn answer(&mut self, instance: &mut Instance, now: Instant) {
+        self.answer_one(instance, now);
+        self.show_table(instance, now);
+        self.close(now);
+    }
+
+    fn has_command(&self) -> bool {
+        self.connections.iter().any(Connection::has_command)
+    }
+
+    /// When to look at the table; None where nobody watches.
+    fn table_time(&self) -> Option<Instant> {
+        self.connections.iter().any(Connection::awaits_change).then_some(self.next_table)
+    }
+
+    fn close(&mut self, now: Instant) {
+        self.connections.retain(|client| !client.is_over(now));
     }
 
     fn has_room(&self, now: Instant) -> bool {
@@ -82,7 +104,6 @@ impl Control {
         let Some(client) = self.connections.iter_mut().find(|client| client.has_command()) else {
             return;
         };
-        instance.tick(Instant::now());
         match client.command().and_then(|line| obey(&line, instance, watchers)) {
             Ok((Command::Watch, text)) => {
                 let shown = status::timeless(instance);
@@ -95,12 +116,14 @@ impl Control {
 
     /// Shows the table to the watchers that haven't seen it as it is now.
     fn show_table(&mut self, instance: &Instance, now: Instant) {
-        let latest = instance.changes();
-        let behind = self.connections.iter().any(|client| client.is_behind(latest));
-        if !behind || now < self.next_table {
+        if now < self.next_table {
             return;
         }
         self.next_table = now + BETWEEN_TABLES;
+        let latest = instance.changes();
+        if !self.connections.iter().any(|client| client.is_behind(latest)) {
+            return;
+        }
         let shown = status::timeless(instance);
         let text = format!("\n{}", status::text(instance));
         for client in self.connections.iter_mut().filter(|client| client.is_behind(latest)) {

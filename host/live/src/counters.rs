@@ -1,45 +1,20 @@
-//! What became of the packets, counted.
+//! What became of the packets. The library counts its answers itself, while it serves.
 
-use nidhaaguf::{Change, Passed, Refusal};
+use nidhaaguf::{Change, Refusal, Way};
 use std::fmt;
 
-/// Which of the library's two calls a packet was given to.
-#[derive(Clone, Copy, Debug, PartialEq, Eq)]
-pub enum Way {
-    /// From a client.
-    Inbound,
-    /// From a server.
-    Outbound,
-}
-
-impl Way {
-    /// Both.
-    pub const ALL: [Way; 2] = [Way::Inbound, Way::Outbound];
-
-    /// Its name in texts.
-    pub fn name(self) -> &'static str {
-        match self {
-            Way::Inbound => "inbound",
-            Way::Outbound => "outbound",
-        }
-    }
-}
+/// The ways, with their names in texts.
+pub const WAYS: [(Way, &str); 2] = [(Way::Inbound, "inbound"), (Way::Outbound, "outbound")];
 
 /// What an accepted packet may have done, with its name in texts.
 pub const CHANGES: [(Change, &str); 3] =
     [(Change::Opened, "opened"), (Change::Kept, "kept"), (Change::Ended, "ended")];
 
-/// One way's packets.
-#[derive(Clone, Copy, Debug, Default)]
-struct Tally {
-    accepted: [u64; CHANGES.len()],
-    refused: [u64; Refusal::ALL.len()],
-}
-
 /// Counts since the start.
-#[derive(Clone, Copy, Debug, Default)]
+#[derive(Clone, Debug, Default)]
 pub struct Counters {
-    tallies: [Tally; Way::ALL.len()],
+    /// The library's answers to packets.
+    pub packets: nidhaaguf::Counters,
     /// Accepted packets that the device didn't take.
     pub write_failures: u64,
     /// Connections removed because they were idle.
@@ -47,50 +22,26 @@ pub struct Counters {
 }
 
 impl Counters {
-    /// Counts the library's answer to a packet.
-    pub fn count(&mut self, way: Way, answer: Result<Passed, Refusal>) {
-        let tally = &mut self.tallies[way as usize];
-        match answer {
-            Ok(passed) => tally.accepted[change_index(passed.change)] += 1,
-            Err(refusal) => tally.refused[refusal_index(refusal)] += 1,
-        }
-    }
-
-    /// How many packets were accepted so.
-    pub fn accepted(&self, way: Way, change: Change) -> u64 {
-        self.tallies[way as usize].accepted[change_index(change)]
-    }
-
-    /// How many packets were refused so.
-    pub fn refused(&self, way: Way, refusal: Refusal) -> u64 {
-        self.tallies[way as usize].refused[refusal_index(refusal)]
+    /// How many times a connection was opened or went.
+    pub fn connection_changes(&self) -> u64 {
+        let count = |way, change| self.packets.accepted(way, change);
+        let changes = WAYS.map(|(way, _)| count(way, Change::Opened) + count(way, Change::Ended));
+        changes.iter().sum::<u64>() + self.idle_removed
     }
 }
 
 impl fmt::Display for Counters {
     /// One line: the counts that a log should keep.
     fn fmt(&self, out: &mut fmt::Formatter<'_>) -> fmt::Result {
-        for way in Way::ALL {
-            let refused: u64 = self.tallies[way as usize].refused.iter().sum();
-            write!(out, "{} ", way.name())?;
+        for (way, name) in WAYS {
+            write!(out, "{name} ")?;
             for (change, name) in CHANGES {
-                write!(out, "{} {name}, ", self.accepted(way, change))?;
+                write!(out, "{} {name}, ", self.packets.accepted(way, change))?;
             }
-            write!(out, "{refused} refused; ")?;
+            let refused = Refusal::ALL.map(|refusal| self.packets.refused(way, refusal));
+            write!(out, "{} refused; ", refused.iter().sum::<u64>())?;
         }
         write!(out, "{} removed as idle; ", self.idle_removed)?;
         write!(out, "{} not taken by the device", self.write_failures)
     }
-}
-
-fn change_index(change: Change) -> usize {
-    match change {
-        Change::Opened => 0,
-        Change::Kept => 1,
-        Change::Ended => 2,
-    }
-}
-
-fn refusal_index(refusal: Refusal) -> usize {
-    Refusal::ALL.iter().position(|each| *each == refusal).expect("all of them are in ALL")
 }

@@ -1,9 +1,9 @@
 //! One running director: the library's state, its clock and the counts.
 
 use crate::clock::Clock;
-use crate::counters::{Counters, Way};
-use crate::packets;
-use nidhaaguf::{Change, Director, Refusal, Settings};
+use crate::counters::Counters;
+use nidhaaguf::{Director, Refusal, Served, Settings};
+use std::os::fd::AsFd;
 use std::time::{Duration, Instant};
 
 /// A running director.
@@ -13,13 +13,13 @@ pub struct Instance {
     director: Director,
     clock: Clock,
     counters: Counters,
-    changes: u64,
+    weights_set: u64,
 }
 
 impl Instance {
     /// A director that was set up with `settings`.
     pub fn new(settings: Settings, director: Director, clock: Clock) -> Instance {
-        Instance { settings, director, clock, counters: Counters::default(), changes: 0 }
+        Instance { settings, director, clock, counters: Counters::default(), weights_set: 0 }
     }
 
     /// What it was set up with: the weights may have changed since.
@@ -39,7 +39,7 @@ impl Instance {
 
     /// A number that grows whenever weights or connections change.
     pub fn changes(&self) -> u64 {
-        self.changes
+        self.weights_set + self.counters.connection_changes()
     }
 
     /// Moves the library's clock to now, and so removes the idle connections.
@@ -51,7 +51,6 @@ impl Instance {
         // never refused: the clock doesn't go back
         let removed = self.director.tick(second).unwrap_or(0);
         self.counters.idle_removed += u64::from(removed);
-        self.changes += u64::from(removed);
     }
 
     /// How long until the clock shows another second.
@@ -59,30 +58,24 @@ impl Instance {
         self.clock.until_next(now)
     }
 
-    /// Hands a packet to the library at the second of the latest tick. True if it was accepted and rewritten, and is to
-    /// be sent.
-    pub fn pass(&mut self, packet: &mut [u8]) -> bool {
-        let way = packets::way(packet, *self.settings.service.ip());
-        let clock = self.director.clock();
-        let answer = match way {
-            Way::Inbound => self.director.inbound(packet, clock),
-            Way::Outbound => self.director.outbound(packet, clock),
-        };
-        self.counters.count(way, answer);
-        let changed = answer.is_ok_and(|passed| passed.change != Change::Kept);
-        self.changes += u64::from(changed);
-        answer.is_ok()
-    }
-
-    /// Counts an accepted packet that the device didn't take.
-    pub fn count_write_failure(&mut self) {
-        self.counters.write_failures += 1;
+    /// Serves packets of a device at the second of the latest tick, until a read gives nothing or `most` are taken.
+    pub fn serve(
+        &mut self,
+        device: impl AsFd,
+        buffer: &mut [u8],
+        most: u32,
+    ) -> Result<Served, Refusal> {
+        let (clock, counters) = (self.director.clock(), &mut self.counters);
+        let served = self.director.serve(device, buffer, &mut counters.packets, clock, most)?;
+        counters.idle_removed += u64::from(served.removed);
+        counters.write_failures += u64::from(served.unsent);
+        Ok(served)
     }
 
     /// Sets a server's weight.
     pub fn set_weight(&mut self, server: usize, weight: u16) -> Result<(), Refusal> {
         self.director.set_weight(server, weight)?;
-        self.changes += 1;
+        self.weights_set += 1;
         Ok(())
     }
 }

@@ -1,7 +1,8 @@
 //! The live director: the proved library between clients and replicas, on a TUN device.
 //!
-//! `nidhaagufd` reads packets from the device, hands each to the library, and writes back those that it accepts.
-//! `nidhaagufctl` talks to it over a Unix socket. All decisions about packets are the library's.
+//! In `nidhaagufd` a thread sits in the library's loop, which reads packets from the device, and writes back those that it
+//! accepts; between two calls of it the clock ticks and commands are carried out, which `nidhaagufctl` sends over a Unix
+//! socket. All decisions about packets are the library's.
 
 #![deny(unsafe_code)]
 #![warn(missing_docs)]
@@ -16,7 +17,7 @@ pub mod flags;
 pub mod given;
 pub mod instance;
 pub mod metrics;
-pub mod packets;
+pub mod packet_thread;
 pub mod serve;
 pub mod setup;
 pub mod socket;

@@ -1,6 +1,6 @@
 //! The counts in the text form of Prometheus.
 
-use crate::counters::{Way, CHANGES};
+use crate::counters::{CHANGES, WAYS};
 use crate::instance::Instance;
 use crate::status;
 use nidhaaguf::Refusal;
@@ -51,20 +51,20 @@ fn add_table(out: &mut String, instance: &Instance) {
 }
 
 fn add_packets(out: &mut String, instance: &Instance) {
-    let counters = instance.counters();
+    let packets = &instance.counters().packets;
     head(out, "packets_total", "counter", "Accepted packets, by what they did.");
-    for way in Way::ALL {
+    for (way, way_name) in WAYS {
         for (change, name) in CHANGES {
-            let labels = format!("{{way=\"{}\",answer=\"{name}\"}}", way.name());
-            sample(out, "packets_total", &labels, counters.accepted(way, change));
+            let labels = format!("{{way=\"{way_name}\",answer=\"{name}\"}}");
+            sample(out, "packets_total", &labels, packets.accepted(way, change));
         }
     }
     head(out, "refusals_total", "counter", "Refused packets, by the number of the refusal.");
-    for way in Way::ALL {
+    for (way, way_name) in WAYS {
         for refusal in Refusal::ALL.into_iter().filter(|refusal| refusal.is_of_packets()) {
-            let (way_name, number, reason) = (way.name(), refusal.number(), refusal.words());
+            let (number, reason) = (refusal.number(), refusal.words());
             let labels = format!("{{way=\"{way_name}\",number=\"{number}\",reason=\"{reason}\"}}");
-            sample(out, "refusals_total", &labels, counters.refused(way, refusal));
+            sample(out, "refusals_total", &labels, packets.refused(way, refusal));
         }
     }
 }

@@ -1,69 +1,71 @@
-//! The loop that waits for packets, clients, signals and the clock.
+//! The loop that waits for clients, signals and the clock, beside the thread that serves the packets.
 
 use crate::control::Control;
 use crate::instance::Instance;
+use crate::packet_thread::PacketThread;
 use crate::system::{self, Waited};
-use crate::tun::Tun;
 use std::fs::File;
 use std::io::Read;
 use std::time::Instant;
 
-/// Packets between two looks at the clock, the clients and the signals.
-const PACKETS_A_TURN: usize = 64;
+/// The director at its end, with the name of the signal that ended it; an error means that the device is gone.
+pub type Ended = (Instance, Result<&'static str, String>);
 
-/// The longest IPv4 packet, and so the longest that the device gives.
-const MOST_PACKET: usize = 65_536;
-
-/// Serves until a signal comes, and gives its name. An error means that the device is gone.
+/// Serves until a signal comes or the device goes.
 pub fn serve(
-    instance: &mut Instance,
-    device: &Tun,
+    instance: Instance,
+    packets: &mut PacketThread,
     control: &mut Control,
     signals: &File,
-) -> Result<&'static str, String> {
-    let mut packet = vec![0; MOST_PACKET];
+) -> Ended {
     let mut files = Vec::new();
+    let mut next_tick = Instant::now();
+    packets.lend(instance);
     loop {
-        wait(&mut files, instance, device, control, signals)?;
+        let waited = wait(&mut files, packets, control, signals, next_tick);
         let now = Instant::now();
-        // first the tick: so the packets' own calls find no idle connections, and all are counted here
-        instance.tick(now);
-        if files[0].is_ready() {
-            pass_packets(instance, device, &mut packet)?;
+        control.exchange(&files[2..], now);
+        let has_ended = waited.is_err() || files[..2].iter().any(Waited::is_ready);
+        if !has_ended && now < next_tick && !control.needs_director(now) {
+            continue;
+        }
+        let (mut instance, served) = packets.take_back();
+        if let Err(complaint) = waited.and(served) {
+            return (instance, Err(complaint));
         }
         if let Some(name) = signal_name(&files[1], signals) {
-            return Ok(name);
+            return (instance, Ok(name));
         }
-        control.turn(&files[2..], instance, now);
+        next_tick = turn(&mut instance, control);
+        packets.lend(instance);
     }
 }
 
-/// Waits until there is something to do: `files` are then the device, the signals, and those of the control socket.
+/// Waits until there is something to do: `files` are then the packet thread's end, the signals, and those of the control
+/// socket.
 fn wait(
     files: &mut Vec<Waited>,
-    instance: &Instance,
-    device: &Tun,
+    packets: &PacketThread,
     control: &Control,
     signals: &File,
+    next_tick: Instant,
 ) -> Result<(), String> {
     let now = Instant::now();
     files.clear();
-    files.extend([Waited::new(device, true, false), Waited::new(signals, true, false)]);
+    files.extend([packets.waited(), Waited::new(signals, true, false)]);
     control.add_waited(files, now);
-    let tick = instance.until_tick(now);
-    let time = control.time_left(instance, now).map_or(tick, |left| left.min(tick));
-    system::wait(files, time).map_err(|error| format!("waiting for packets failed: {error}"))
+    let tick = next_tick.saturating_duration_since(now);
+    let time = control.time_left(now).map_or(tick, |left| left.min(tick));
+    system::wait(files, time).map_err(|error| format!("waiting for clients failed: {error}"))
 }
 
-fn pass_packets(instance: &mut Instance, device: &Tun, buffer: &mut [u8]) -> Result<(), String> {
-    for _ in 0..PACKETS_A_TURN {
-        let Some(length) = device.read(buffer)? else { return Ok(()) };
-        let packet = &mut buffer[..length];
-        if instance.pass(packet) && !device.write(packet) {
-            instance.count_write_failure();
-        }
-    }
-    Ok(())
+/// What is done between two calls of the packet thread; tells when the clock shows another second.
+fn turn(instance: &mut Instance, control: &mut Control) -> Instant {
+    let now = Instant::now();
+    // first the tick: what a command tells is true at the clock that it tells
+    instance.tick(now);
+    control.answer(instance, now);
+    now + instance.until_tick(now)
 }
 
 fn signal_name(file: &Waited, mut signals: &File) -> Option<&'static str> {

@@ -6,14 +6,17 @@ use std::io::{Error, ErrorKind, Result};
 use std::mem::size_of;
 use std::os::fd::{AsRawFd, FromRawFd, OwnedFd};
 use std::os::unix::net::UnixStream;
+use std::os::unix::thread::{JoinHandleExt, RawPthread};
+use std::thread::JoinHandle;
 use std::time::Duration;
 
 /// The signal of Ctrl-C.
 pub const SIGINT: i32 = 2;
 /// The signal by which a process is asked to end.
 pub const SIGTERM: i32 = 15;
-/// Opens a file so that reads and writes never wait.
-pub const O_NONBLOCK: i32 = 0o4000;
+/// The signal that interrupts a thread. A process that doesn't take it ignores it, so it can't end this one, whoever sends
+/// it and whenever.
+const SIGURG: i32 = 23;
 
 const TUNSETIFF: u64 = 0x4004_54CA;
 /// IFF_TUN: packets without a link header. IFF_NO_PI: nor the four bytes that TUN puts in front by default.
@@ -35,6 +38,15 @@ struct InterfaceRequest {
 /// C's `sigset_t`.
 #[repr(C)]
 struct SignalSet([u64; 16]);
+
+/// C's `struct sigaction`.
+#[repr(C)]
+struct SignalAction {
+    handler: extern "C" fn(i32),
+    mask: SignalSet,
+    flags: i32,
+    restorer: usize,
+}
 
 /// C's `struct ucred`.
 #[repr(C)]
@@ -63,6 +75,8 @@ extern "C" {
     fn sigemptyset(set: *mut SignalSet) -> i32;
     fn sigaddset(set: *mut SignalSet, signal: i32) -> i32;
     fn pthread_sigmask(how: i32, set: *const SignalSet, old: *mut SignalSet) -> i32;
+    fn sigaction(signal: i32, action: *const SignalAction, old: *mut SignalAction) -> i32;
+    fn pthread_kill(thread: RawPthread, signal: i32) -> i32;
     fn signalfd(descriptor: i32, set: *const SignalSet, flags: i32) -> i32;
     fn getsockopt(
         descriptor: i32,
@@ -135,6 +149,22 @@ pub fn signals_as_file() -> Result<File> {
         done(descriptor)?;
         Ok(File::from(OwnedFd::from_raw_fd(descriptor)))
     }
+}
+
+/// Lets [`interrupt`] end what a thread waits for: by a handler that does nothing, and after which no call is begun anew.
+pub fn take_interrupts() -> Result<()> {
+    extern "C" fn nothing(_signal: i32) {}
+    let action = SignalAction { handler: nothing, mask: SignalSet([0; 16]), flags: 0, restorer: 0 };
+    // SAFETY: the action is a whole sigaction that lives through the call, and its handler touches nothing; the old one isn't
+    // asked for.
+    done(unsafe { sigaction(SIGURG, &action, std::ptr::null_mut()) })
+}
+
+/// Ends a read or a wait that the thread is in now, as interrupted. A thread that isn't in one, or that has ended, doesn't
+/// notice.
+pub fn interrupt<T>(thread: &JoinHandle<T>) {
+    // SAFETY: there is a handle of the thread, so it was neither joined nor detached, and its number is its own.
+    unsafe { pthread_kill(thread.as_pthread_t(), SIGURG) };
 }
 
 /// The user of the process at the other end, as of its connecting.

@@ -3,8 +3,7 @@
 use crate::system;
 use std::fs::{File, OpenOptions};
 use std::io::{ErrorKind, Read, Write};
-use std::os::fd::{AsRawFd, RawFd};
-use std::os::unix::fs::OpenOptionsExt;
+use std::os::fd::{AsRawFd, OwnedFd, RawFd};
 
 const EBUSY: i32 = 16;
 const EPERM: i32 = 1;
@@ -19,9 +18,9 @@ pub struct Tun {
 impl Tun {
     /// Creates the device, or takes one that is there and that nobody has open.
     pub fn open(name: &str) -> Result<Tun, String> {
-        let mut options = OpenOptions::new();
-        options.read(true).write(true).custom_flags(system::O_NONBLOCK);
-        let file = options
+        let file = OpenOptions::new()
+            .read(true)
+            .write(true)
             .open("/dev/net/tun")
             .map_err(|error| format!("/dev/net/tun can't be opened: {error}"))?;
         system::set_interface(&file, name).map_err(|error| {
@@ -35,11 +34,11 @@ impl Tun {
         Ok(Tun { file, name: name.to_string() })
     }
 
-    /// Reads a packet, and gives its length; None if there is none now. An error means that the device is gone.
+    /// Waits for a packet, and gives its length; None if a signal came first. An error means that the device is gone.
     pub fn read(&self, buffer: &mut [u8]) -> Result<Option<usize>, String> {
         match (&self.file).read(buffer) {
             Ok(length) => Ok(Some(length)),
-            Err(error) if waits(error.kind()) => Ok(None),
+            Err(error) if error.kind() == ErrorKind::Interrupted => Ok(None),
             Err(error) => Err(format!("the device {} is gone: {error}", self.name)),
         }
     }
@@ -50,12 +49,14 @@ impl Tun {
     }
 }
 
-fn waits(kind: ErrorKind) -> bool {
-    matches!(kind, ErrorKind::WouldBlock | ErrorKind::Interrupted)
-}
-
 impl AsRawFd for Tun {
     fn as_raw_fd(&self) -> RawFd {
         self.file.as_raw_fd()
+    }
+}
+
+impl From<Tun> for OwnedFd {
+    fn from(device: Tun) -> OwnedFd {
+        device.file.into()
     }
 }

@@ -5,6 +5,7 @@ use live::config::Config;
 use live::control::Control;
 use live::flags::{self, Flags, Request};
 use live::instance::Instance;
+use live::packet_thread::PacketThread;
 use live::serve::serve;
 use live::socket::Socket;
 use live::tun::Tun;
@@ -60,13 +61,16 @@ fn run(flags: Flags) -> Result<(), Failure> {
 fn start(config: &Config, director: Director, speed: u32) -> Result<(), Failure> {
     let signals = system::signals_as_file()
         .map_err(|error| Failure::Failed(format!("signals can't be taken: {error}")))?;
-    let device = Tun::open(&config.device.value).map_err(Failure::Failed)?;
+    let name = &config.device.value;
+    let device = Tun::open(name).map_err(Failure::Failed)?;
     let socket = Socket::open(&config.socket.value).map_err(Failure::Failed)?;
     let now = Instant::now();
     let mut control = Control::new(socket, now);
-    let mut instance = Instance::new(config.settings(), director, Clock::new(now, speed));
+    // after the signals were taken: so none of them goes to this thread
+    let mut packets = PacketThread::start(device, name).map_err(Failure::Failed)?;
+    let instance = Instance::new(config.settings(), director, Clock::new(now, speed));
     say(&ready_line(config))?;
-    let ended = serve(&mut instance, &device, &mut control, &signals);
+    let (instance, ended) = serve(instance, &mut packets, &mut control, &signals);
     let counts = format!("clock {}; {}", instance.director().clock(), instance.counters());
     match ended {
         Ok(signal) => {

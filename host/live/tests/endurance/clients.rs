@@ -1,9 +1,11 @@
 //! Clients of the control socket that the daemon must outlast.
 
 use crate::daemon::{control, output, PATIENCE};
+use crate::model::VIRTUAL;
 use crate::rig::Rig;
 use live::system::{self, Waited};
 use programs::SETPRIV;
+use reference::packets::{tcp, SYN};
 use std::fs;
 use std::io::{BufRead, BufReader, Read, Write};
 use std::os::unix::fs::PermissionsExt;
@@ -149,6 +151,22 @@ pub fn a_watch_that_reads(rig: &mut Rig) {
     assert!(news[0].is_empty() && news[3].ends_with("9       0            in service"), "{news:?}");
     rig.set_weight(0, 2);
     assert!(table()[3].ends_with("2       0            in service"));
+    for connections in 1..=5 {
+        open_connection(rig);
+        let opened = Instant::now();
+        let news = table();
+        assert!(news[1].contains(&format!(", {connections} of 64 slots used, ")), "{news:?}");
+        // it looks for watchers: neither a command nor the tick of a second made it do so
+        assert!(opened.elapsed() < Duration::from_millis(400), "{:?}", opened.elapsed());
+    }
+    rig.end_all();
+}
+
+/// Opens a connection, and asks the daemon nothing.
+fn open_connection(rig: &mut Rig) {
+    let syn = tcp((0x0A00_0001, rig.new_port()), VIRTUAL, SYN).build();
+    rig.link.send(&syn);
+    assert_eq!(rig.link.receive(PATIENCE), rig.model.take(&syn));
 }
 
 /// The lines as they come.

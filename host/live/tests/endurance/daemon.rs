@@ -75,23 +75,12 @@ impl Daemon {
     }
 
     pub fn connect(&self) -> UnixStream {
-        let stream = UnixStream::connect(&self.socket).unwrap();
-        stream.set_read_timeout(Some(PATIENCE)).unwrap();
-        stream.set_write_timeout(Some(PATIENCE)).unwrap();
-        stream
+        connect(&self.socket)
     }
 
-    /// The whole answer to a command: `ok` or `error: ...`, and the text.
+    /// The whole answer to a command.
     pub fn ask(&self, command: &str) -> String {
-        let mut stream = self.connect();
-        stream.write_all(format!("{command}\n").as_bytes()).unwrap();
-        let mut answer = Vec::new();
-        match stream.read_to_end(&mut answer) {
-            // so ends an answer to a client that has said more than a command
-            Err(error) if error.kind() == ErrorKind::ConnectionReset => {}
-            other => drop(other.unwrap()),
-        }
-        String::from_utf8(answer).unwrap()
+        ask(&self.socket, command)
     }
 
     /// The text of an answer that must be good.
@@ -102,8 +91,23 @@ impl Daemon {
 
     /// Sends a signal by its name.
     pub fn signal(&self, name: &str) {
-        let process = self.child.id().to_string();
-        assert!(KILL.run(&["-s", name, &process]).status.success());
+        send_signal(name, &self.child.id().to_string());
+    }
+
+    /// Sends each of its threads a signal.
+    pub fn signal_threads(&self, name: &str) {
+        for thread in fs::read_dir(format!("/proc/{}/task", self.child.id())).unwrap() {
+            send_signal(name, thread.unwrap().file_name().to_str().unwrap());
+        }
+    }
+
+    /// The processor's time that it has taken, with all its threads.
+    pub fn processor_time(&self) -> Duration {
+        let stat = fs::read_to_string(format!("/proc/{}/stat", self.child.id())).unwrap();
+        // after the name, which ends in the last parenthesis: the user's and the system's time are fields 14 and 15
+        let fields = stat.rsplit_once(") ").unwrap().1.split(' ');
+        let ticks: u64 = fields.skip(11).take(2).map(|field| field.parse::<u64>().unwrap()).sum();
+        Duration::from_millis(10 * ticks)
     }
 
     /// Waits for its end.
@@ -122,6 +126,31 @@ impl Daemon {
         assert!(last.contains("; inbound ") && last.contains("; outbound "), "{log}");
         assert!(!PathBuf::from(socket).exists(), "the socket file is still there");
     }
+}
+
+/// To a process, or to a thread by its number.
+fn send_signal(name: &str, receiver: &str) {
+    assert!(KILL.run(&["-s", name, receiver]).status.success());
+}
+
+fn connect(socket: &str) -> UnixStream {
+    let stream = UnixStream::connect(socket).unwrap();
+    stream.set_read_timeout(Some(PATIENCE)).unwrap();
+    stream.set_write_timeout(Some(PATIENCE)).unwrap();
+    stream
+}
+
+/// The whole answer to a command of the daemon at that socket: `ok` or `error: ...`, and the text.
+pub fn ask(socket: &str, command: &str) -> String {
+    let mut stream = connect(socket);
+    stream.write_all(format!("{command}\n").as_bytes()).unwrap();
+    let mut answer = Vec::new();
+    match stream.read_to_end(&mut answer) {
+        // so ends an answer to a client that has said more than a command
+        Err(error) if error.kind() == ErrorKind::ConnectionReset => {}
+        other => drop(other.unwrap()),
+    }
+    String::from_utf8(answer).unwrap()
 }
 
 impl Drop for Daemon {

@@ -3,8 +3,10 @@
 use crate::daemon::{command, output, Daemon, Place, PATIENCE};
 use crate::link::{self, Link};
 use crate::model::{CONFIG, VIRTUAL};
+use crate::rig::Rig;
 use reference::packets::{tcp, SYN};
 use std::fs;
+use std::io::{Read, Write};
 use std::path::Path;
 use std::time::{Duration, Instant};
 
@@ -44,12 +46,15 @@ pub fn file_in_the_way() {
     assert_eq!(fs::read_to_string(place.file("sock")).unwrap(), "precious");
 }
 
-/// A director can't go on without its device.
+/// A director can't go on without its device, and notices at once, also when nothing comes.
 pub fn deleted_device() {
     let place = Place::new("deleted");
     let daemon = Daemon::start(&place, CONFIG, &[]);
     link::ip("link delete nid0");
+    let deleted = Instant::now();
     let (code, out, log) = daemon.wait();
+    // the clock's first second is not over then: it would look at its tick
+    assert!(deleted.elapsed() < Duration::from_millis(500), "it took {:?}", deleted.elapsed());
     assert_eq!((code, out.as_str()), (Some(1), ""));
     assert!(log.starts_with("nidhaagufd: the device nid0 is gone: "), "{log}");
     assert!(!Path::new(&place.file("sock")).exists());
@@ -70,6 +75,43 @@ pub fn idle_connections() {
     let (code, _, log) = daemon.wait();
     assert_eq!(code, Some(0));
     assert!(log.starts_with("nidhaagufd: for drills only: the clock runs 1000 times"), "{log}");
+}
+
+/// The clock ticks by itself: an idle connection goes though neither a packet nor a command comes.
+pub fn ticks_in_silence() {
+    let place = Place::new("silence");
+    let daemon = Daemon::start(&place, CONFIG, &["--clock-speed", "1000"]);
+    Link::open("nid0").send(&tcp((0x0A00_0001, 40_000), VIRTUAL, SYN).build());
+    await_metric(&daemon, "nidhaaguf_slots_used 1");
+    std::thread::sleep(Duration::from_millis(1_200));
+    daemon.signal("TERM");
+    let (code, _, log) = daemon.wait();
+    assert_eq!(code, Some(0));
+    assert!(log.contains("; 1 removed as idle; "), "{log}");
+}
+
+/// Waiting takes no time of the processor, also where somebody watches.
+pub fn idle_daemon() {
+    let place = Place::new("still");
+    let daemon = Daemon::start(&place, CONFIG, &[]);
+    let mut watcher = daemon.connect();
+    watcher.write_all(b"watch\n").unwrap();
+    watcher.read_exact(&mut [0; 3]).unwrap();
+    let before = daemon.processor_time();
+    std::thread::sleep(Duration::from_secs(2));
+    let time = daemon.processor_time() - before;
+    assert!(time <= Duration::from_millis(40), "{time:?} of the processor's time in 2 s");
+    daemon.end_by("INT");
+}
+
+/// The signal that interrupts the packet thread is nobody's secret: sent from outside it does nothing.
+pub fn stray_signals() {
+    let mut rig = Rig::start("signals");
+    for _ in 0..50 {
+        rig.daemon.signal_threads("URG");
+        rig.must_serve();
+    }
+    rig.daemon.end_by("TERM");
 }
 
 fn await_metric(daemon: &Daemon, line: &str) {

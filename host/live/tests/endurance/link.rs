@@ -112,6 +112,11 @@ impl Link {
         }
     }
 
+    /// Sends a packet into the device if it takes one: false where its queue is full, it is down or gone.
+    pub fn offer(&self, packet: &[u8]) -> bool {
+        self.send_once(packet).is_ok()
+    }
+
     fn send_once(&self, packet: &[u8]) -> io::Result<()> {
         // SAFETY: the pointer and the length are those of a slice that is lent for the call.
         let sent = unsafe { send(self.0.as_raw_fd(), packet.as_ptr(), packet.len(), 0) };

@@ -8,6 +8,7 @@ mod counts;
 mod daemon;
 mod damage;
 mod endings;
+mod floods;
 mod link;
 mod model;
 mod packets;
@@ -62,5 +63,17 @@ fn starts_and_ends() {
         endings::file_in_the_way();
         endings::deleted_device();
         endings::idle_connections();
+        endings::ticks_in_silence();
+        endings::idle_daemon();
+        endings::stray_signals();
+    });
+}
+
+#[test]
+fn floods_of_packets() {
+    in_own_network("endurance of floods", || {
+        floods::commands_while_packets_pass();
+        floods::status_under_a_flood();
+        floods::device_deleted_under_a_flood();
     });
 }

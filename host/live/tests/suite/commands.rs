@@ -54,7 +54,7 @@ fn wrong_commands_are_told_what_was_expected() {
 fn weights_and_counts() {
     let mut instance = instance(Instant::now());
     assert_eq!(answer(&mut instance, "count 0").unwrap(), "0\n");
-    assert!(instance.pass(&mut syn(1)));
+    assert!(pass(&mut instance, &syn(1)).is_some());
     assert_eq!(answer(&mut instance, "count 0").unwrap(), "1\n");
     let draining = "server 0 (10.1.0.5:6432): weight 0, 1 connections, draining\n";
     assert_eq!(answer(&mut instance, "drain 0").unwrap(), draining);

@@ -5,6 +5,7 @@ mod command_line;
 mod commands;
 mod config;
 mod connection;
+mod packet_thread;
 mod packets;
 mod support;
 mod texts;

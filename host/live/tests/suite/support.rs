@@ -6,6 +6,7 @@ use live::flags::Flags;
 use live::instance::Instance;
 use live::setup;
 use reference::packets::{self, End, SYN};
+use std::os::unix::net::UnixDatagram;
 use std::time::Instant;
 
 pub const CONFIG: &str = "\
@@ -29,4 +30,15 @@ pub fn instance(start: Instant) -> Instance {
 /// A SYN from a client that is told by its port.
 pub fn syn(port: u16) -> Vec<u8> {
     packets::tcp((0x0A00_0001, port), VIRTUAL, SYN).build()
+}
+
+/// Hands a packet to the instance as its device would, and gives what it writes to it.
+pub fn pass(instance: &mut Instance, packet: &[u8]) -> Option<Vec<u8>> {
+    let (link, device) = UnixDatagram::pair().unwrap();
+    link.set_nonblocking(true).unwrap();
+    link.send(packet).unwrap();
+    let mut buffer = [0; 2_048];
+    assert_eq!(instance.serve(&device, &mut buffer, 1).unwrap().taken, 1);
+    let length = link.recv(&mut buffer).ok()?;
+    Some(buffer[..length].to_vec())
 }

@@ -1,7 +1,9 @@
 //! The texts of status and metrics.
 
 use crate::support::*;
+use live::instance::Instance;
 use live::{metrics, status};
+use std::os::unix::net::UnixDatagram;
 use std::time::{Duration, Instant};
 
 #[test]
@@ -9,7 +11,7 @@ fn the_status_is_a_table() {
     let start = Instant::now();
     let mut instance = instance(start);
     for port in 1..=7 {
-        assert!(instance.pass(&mut syn(port)));
+        assert!(pass(&mut instance, &syn(port)).is_some());
     }
     instance.set_weight(1, 0).unwrap();
     instance.tick(start + Duration::from_secs(12));
@@ -41,11 +43,13 @@ fn metrics_tell_the_counts() {
     let start = Instant::now();
     let mut instance = instance(start);
     for port in [1, 2, 3, 1] {
-        assert!(instance.pass(&mut syn(port)));
+        assert!(pass(&mut instance, &syn(port)).is_some());
     }
-    assert!(!instance.pass(&mut [0; 30]) && !instance.pass(&mut [0; 3]));
+    for length in [30, 3] {
+        assert_eq!(pass(&mut instance, &vec![0; length]), None);
+    }
     instance.set_weight(2, 0).unwrap();
-    instance.count_write_failure();
+    fail_to_write(&mut instance);
     instance.tick(start + Duration::from_secs(100));
     let text = metrics::text(&instance);
     for line in [
@@ -56,7 +60,7 @@ fn metrics_tell_the_counts() {
         "nidhaaguf_slots_used 3",
         "nidhaaguf_clock_seconds 100",
         "nidhaaguf_packets_total{way=\"inbound\",answer=\"opened\"} 3",
-        "nidhaaguf_packets_total{way=\"inbound\",answer=\"kept\"} 1",
+        "nidhaaguf_packets_total{way=\"inbound\",answer=\"kept\"} 2",
         "nidhaaguf_refusals_total{way=\"inbound\",number=\"6\",reason=\"the packet's IPv4 header is malformed\"} 1",
         "nidhaaguf_refusals_total{way=\"outbound\",number=\"6\",reason=\"the packet's IPv4 header is malformed\"} 1",
         "nidhaaguf_write_failures_total 1",
@@ -66,6 +70,14 @@ fn metrics_tell_the_counts() {
     }
     instance.tick(start + Duration::from_secs(900));
     assert!(metrics::text(&instance).contains("\nnidhaaguf_idle_removed_total 3\n"));
+}
+
+/// A packet that is accepted, for a device that doesn't take it.
+fn fail_to_write(instance: &mut Instance) {
+    let (link, device) = UnixDatagram::pair().unwrap();
+    link.send(&syn(1)).unwrap();
+    drop(link);
+    assert_eq!(instance.serve(&device, &mut [0; 2_048], 1).unwrap().unsent, 1);
 }
 
 /// Each metric has its HELP and TYPE once, before its samples, and each sample is a name, labels and a number.
