@@ -1,7 +1,7 @@
 //! Where the processor's time goes in the program on the TUN device, with eight clients: samples by perf.
 
 use super::load::{drive, processes, EIGHT_CLIENTS};
-use super::stacks::shares;
+use super::stacks::{shares, Spent};
 use super::ways::{self, Standing, Way};
 use super::Order;
 use crate::lab::postgres::Postgres;
@@ -14,7 +14,7 @@ use std::time::Duration;
 /// Seconds of load for each program.
 const SECONDS: u32 = 5;
 /// Samples a second of the processor's time. The clock of the system takes them, which every machine has.
-const SAMPLES: &str = "4999";
+const SAMPLES: &str = "1999";
 /// So many must have been taken.
 const FEWEST: usize = 1000;
 /// How long perf may take to write its file.
@@ -28,8 +28,9 @@ pub fn run(lab: &Lab, timeline: &Timeline, order: &Order) -> Result<(), Failure>
     timeline.tell(format!("{REPLICAS} replicas run; {SECONDS} s for each program"));
     let ways = ways::on_the_device(order.beside.as_deref());
     let lines = ways.iter().map(|way| line(lab, way)).collect::<Result<Vec<String>, Failure>>()?;
-    println!("\n| of the program's time | µs a transaction | read | write | other calls | library | C library | program |");
-    println!("|---|---|---|---|---|---|---|---|");
+    let names = Spent::ALL.map(Spent::name).join(" | ");
+    println!("\n| of the program's time | µs a transaction | {names} |");
+    println!("|---|---|{}", "---|".repeat(Spent::ALL.len()));
     lines.iter().for_each(|line| println!("{line}"));
     Ok(())
 }

@@ -3,10 +3,15 @@
 /// What a program's time is spent on.
 #[derive(Clone, Copy, Debug, PartialEq, Eq)]
 pub enum Spent {
-    /// The system call that reads a packet.
-    Reading,
-    /// The system call that writes a packet.
-    Writing,
+    /// The system call that reads a packet, up to the device.
+    Read,
+    /// The system call that writes a packet, up to the device.
+    Write,
+    /// The kernel's network beyond the device. It works in the time of whoever sends: a written packet is routed on, taken by the
+    /// receiver's TCP, and the receiver is woken before the write returns.
+    Network,
+    /// Waiting for a packet, and giving way to another program.
+    Switching,
     /// Any other system call, and interrupts.
     OtherCalls,
     /// The proved library.
@@ -19,32 +24,52 @@ pub enum Spent {
 
 impl Spent {
     /// All, in the order in which they are told.
-    pub const ALL: [Spent; 6] = [
-        Spent::Reading,
-        Spent::Writing,
+    pub const ALL: [Spent; 8] = [
+        Spent::Read,
+        Spent::Write,
+        Spent::Network,
+        Spent::Switching,
         Spent::OtherCalls,
         Spent::Library,
         Spent::CLibrary,
         Spent::Program,
     ];
 
+    /// What it is called in the table.
+    pub fn name(self) -> &'static str {
+        match self {
+            Spent::Read => "read",
+            Spent::Write => "write",
+            Spent::Network => "network beyond",
+            Spent::Switching => "switching",
+            Spent::OtherCalls => "other calls",
+            Spent::Library => "library",
+            Spent::CLibrary => "C library",
+            Spent::Program => "program",
+        }
+    }
+
     /// What a sample fell to, by its stack, the innermost function first.
     fn of(stack: &[Frame]) -> Spent {
-        let caller = stack.iter().find(|frame| !frame.is_kernel());
+        let passes = |names: &[&str]| stack.iter().any(|frame| names.contains(&frame.symbol));
         let in_kernel = stack.first().is_some_and(Frame::is_kernel);
+        let caller = stack.iter().find(|frame| !frame.is_kernel());
         match caller {
-            Some(caller) if in_kernel && caller.is_c_library() => match caller.symbol {
-                symbol if symbol.ends_with("read") => Spent::Reading,
-                symbol if symbol.ends_with("write") => Spent::Writing,
-                _ => Spent::OtherCalls,
-            },
-            _ if in_kernel => Spent::OtherCalls,
+            _ if passes(&NETWORK) => Spent::Network,
+            _ if passes(&SWITCHING) => Spent::Switching,
+            Some(caller) if in_kernel => caller.system_call(),
+            None => Spent::OtherCalls,
             Some(caller) if caller.is_c_library() => Spent::CLibrary,
             Some(caller) if caller.is_library() => Spent::Library,
-            _ => Spent::Program,
+            Some(_) => Spent::Program,
         }
     }
 }
+
+/// The kernel's functions through which a packet goes on: the device's own call of the network, and the interrupt for waiting ones.
+const NETWORK: [&str; 3] = ["netif_receive_skb", "__netif_receive_skb_one_core", "net_rx_action"];
+/// The kernel's functions by which another program gets the processor.
+const SWITCHING: [&str; 2] = ["schedule", "__schedule"];
 
 /// A function on the stack, and the file that it is in.
 struct Frame<'a> {
@@ -63,6 +88,15 @@ impl Frame<'_> {
     /// The kernel and its modules have names in square brackets.
     fn is_kernel(&self) -> bool {
         self.file.starts_with('[')
+    }
+
+    /// The system call that it has made; the program's own functions make none, and are interrupted.
+    fn system_call(&self) -> Spent {
+        match self.symbol {
+            symbol if self.is_c_library() && symbol.ends_with("read") => Spent::Read,
+            symbol if self.is_c_library() && symbol.ends_with("write") => Spent::Write,
+            _ => Spent::OtherCalls,
+        }
     }
 
     fn is_c_library(&self) -> bool {
@@ -104,11 +138,23 @@ mod tests {
     #[test]
     fn a_system_call_is_told_by_who_made_it() {
         let made_by = |user: &str| format!("{KERNEL}\tf82ad {user}\n\t0 [unknown] ([unknown])");
-        check(&made_by("read (/usr/lib/libc.so.6)"), Spent::Reading);
-        check(&made_by("__GI___libc_write (/usr/lib/libc.so.6)"), Spent::Writing);
+        check(&made_by("read (/usr/lib/libc.so.6)"), Spent::Read);
+        check(&made_by("__GI___libc_write (/usr/lib/libc.so.6)"), Spent::Write);
         check(&made_by("__poll (/usr/lib/libc.so.6)"), Spent::OtherCalls);
         check(&made_by("table::find (/usr/bin/nidhaagufd)"), Spent::OtherCalls);
         check(KERNEL, Spent::OtherCalls);
+    }
+
+    #[test]
+    fn what_the_kernel_does_beyond_the_device_is_told_apart() {
+        let through = |kernel: &str| {
+            format!(
+                "ff tcp_v4_rcv ([kernel.kallsyms])\nff {kernel} ([tun])\n\t1 write (/libc.so.6)"
+            )
+        };
+        check(&through("netif_receive_skb"), Spent::Network);
+        check(&through("schedule"), Spent::Switching);
+        check(&through("tun_get_user"), Spent::Write);
     }
 
     #[test]
@@ -127,7 +173,7 @@ mod tests {
     fn samples_are_parted_by_empty_lines() {
         let text = format!("\n{KERNEL}\n\n1 table::find (/x/nidhaagufd)\n\n\n1 a::b (/x/y)\n\n");
         let (samples, parts) = shares(&text);
-        assert_eq!((samples, parts[2], parts[3]), (3, 1.0 / 3.0, 2.0 / 3.0));
+        assert_eq!((samples, parts[4], parts[5]), (3, 1.0 / 3.0, 2.0 / 3.0));
         assert_eq!(shares("").0, 0);
     }
 }
