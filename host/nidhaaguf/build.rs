@@ -1,46 +1,55 @@
-//! Finds libnidhaaguf.a and links it.
+//! Finds the library's two archives and links them.
 
 use std::env;
 use std::path::{Path, PathBuf};
 
-const ARCHIVE: &str = "libnidhaaguf.a";
+/// The libraries as `rt staticlib` and the linker know them.
+const LIBRARIES: [&str; 2] = ["nidhaaguf", "nidhaaguf_serve"];
 
 fn main() {
     println!("cargo:rerun-if-env-changed=NIDHAAGUF_LIB");
-    let archive = archive_path();
-    println!("cargo:rerun-if-changed={}", archive.display());
-    if let Err(complaint) = link(&archive) {
-        // plain words, and no panic message around them
-        eprintln!("\n{complaint}\n");
-        std::process::exit(1);
+    let directory = directory();
+    for library in LIBRARIES {
+        if let Err(complaint) = link(library, &directory) {
+            // plain words, and no panic message around them
+            eprintln!("\n{complaint}\n");
+            std::process::exit(1);
+        }
     }
 }
 
-/// NIDHAAGUF_LIB (the archive or its directory), or where `rt staticlib` writes it.
-fn archive_path() -> PathBuf {
+fn archive(library: &str) -> String {
+    format!("lib{library}.a")
+}
+
+/// NIDHAAGUF_LIB (a directory with both archives, or one of the two), or where `rt staticlib` writes them.
+fn directory() -> PathBuf {
     let here = PathBuf::from(env::var_os("CARGO_MANIFEST_DIR").unwrap_or_default());
     let path = match env::var_os("NIDHAAGUF_LIB") {
         Some(given) => PathBuf::from(given),
         None => here.join("../../target/staticlib"),
     };
-    match path.is_dir() || path.file_name().is_none_or(|name| name != ARCHIVE) {
-        true => path.join(ARCHIVE),
-        false => path,
+    let is_archive = LIBRARIES.iter().any(|library| path.ends_with(archive(library)));
+    match path.parent() {
+        Some(parent) if is_archive && !path.is_dir() => parent.to_path_buf(),
+        _ => path,
     }
 }
 
-fn link(archive: &Path) -> Result<(), String> {
-    let missing = || {
+fn link(library: &str, directory: &Path) -> Result<(), String> {
+    let path = directory.join(archive(library));
+    println!("cargo:rerun-if-changed={}", path.display());
+    let found = path.canonicalize().map_err(|_| {
         format!(
-            "The library {ARCHIVE} is missing: there is no file {}.\n\
-             Run `rt staticlib nidhaaguf` at the top of the repository, which writes it to target/staticlib,\n\
-             or set NIDHAAGUF_LIB to the archive's path.",
-            archive.display()
+            "The library {} is missing: there is no file {}.\n\
+             Run `rt staticlib {library}` at the top of the repository, which writes it to target/staticlib,\n\
+             or set NIDHAAGUF_LIB to the directory that has it.",
+            archive(library),
+            path.display()
         )
-    };
-    let found = archive.canonicalize().map_err(|_| missing())?;
-    let directory = found.parent().ok_or_else(missing)?;
+    })?;
+    let directory = found.parent().unwrap_or(directory);
     println!("cargo:rustc-link-search=native={}", directory.display());
-    println!("cargo:rustc-link-lib=static=nidhaaguf");
+    println!("cargo:rustc-link-lib=static={library}");
     Ok(())
 }

@@ -1,100 +1,15 @@
-//! The C library's structs and calls (include/nidhaaguf.h), and all the unsafe code there is.
+//! The C library's calls (include/nidhaaguf.h), and all the unsafe code there is.
 //!
-//! The library asks two things of its caller: that row and packet are really there for the length of the call, and that
-//! they don't overlap. References promise both, so the calls here are safe with any values.
+//! The library asks two things of its caller: that what is lent (row, packets, records, buffer, counters) is really there
+//! for the length of the call, and that no two of them overlap. References promise both, so the calls here are safe with
+//! any values.
 
-use std::mem::{offset_of, size_of};
-
-/// Places for servers in a state.
-pub const PLACES: usize = 64;
-
-/// Words of the row that a connection takes.
-pub const WORDS_PER_SLOT: usize = 5;
-
-/// A server; its number is its place.
-#[repr(C)]
-#[derive(Clone, Copy, Debug, Default, PartialEq, Eq)]
-pub struct Server {
-    pub address: u32,
-    pub port: u16,
-    pub weight: u16,
-    pub count: u32,
-}
-
-/// What is served: the virtual address and port, protocol, scheduler, and how many servers.
-#[repr(C)]
-#[derive(Clone, Copy, Debug, Default, PartialEq, Eq)]
-pub struct Service {
-    pub address: u32,
-    pub port: u16,
-    pub protocol: u8,
-    pub scheduler: u8,
-    pub servers: u32,
-}
-
-/// The servers that setup is given.
-#[repr(C)]
-#[derive(Clone, Copy, Debug, PartialEq, Eq)]
-pub struct Servers {
-    pub server: [Server; PLACES],
-}
-
-/// What passes from call to call beside the row.
-#[repr(C)]
-#[derive(Clone, Copy, Debug, PartialEq, Eq)]
-pub struct State {
-    pub service: Service,
-    pub clock: u32,
-    pub servers: [Server; PLACES],
-    /// The scheduler's walk: 0 before the first server, k + 1 at server k.
-    pub place: u64,
-    pub level: u16,
-}
-
-/// What a call gives back.
-#[repr(C)]
-#[derive(Clone, Copy, Debug, PartialEq, Eq)]
-pub struct Answer {
-    pub state: State,
-    /// 0 for accepted, else the refusal's number.
-    pub refusal: u32,
-    /// Accepted: the count, how many connections a tick removed, or a packet's server; else 0.
-    pub number: u32,
-    /// An accepted packet: 1 opened, 2 kept, 3 ended; else 0.
-    pub change: u32,
-}
-
-impl Default for State {
-    /// All zeros: good only to be handed to a setup.
-    fn default() -> State {
-        State {
-            service: Service::default(),
-            clock: 0,
-            servers: [Server::default(); PLACES],
-            place: 0,
-            level: 0,
-        }
-    }
-}
-
-// The layout of the header's structs; a mismatch would be read as other fields, so it doesn't compile.
-const _: () = assert!(size_of::<Server>() == 12 && size_of::<Service>() == 12);
-const _: () = assert!(size_of::<Servers>() == 768);
-const _: () = assert!(size_of::<State>() == 800 && size_of::<Answer>() == 816);
-const _: () = assert!(offset_of!(Server, address) == 0 && offset_of!(Server, port) == 4);
-const _: () = assert!(offset_of!(Server, weight) == 6 && offset_of!(Server, count) == 8);
-const _: () = assert!(offset_of!(Service, address) == 0 && offset_of!(Service, port) == 4);
-const _: () = assert!(offset_of!(Service, protocol) == 6 && offset_of!(Service, scheduler) == 7);
-const _: () = assert!(offset_of!(Service, servers) == 8);
-const _: () = assert!(offset_of!(State, service) == 0 && offset_of!(State, clock) == 12);
-const _: () = assert!(offset_of!(State, servers) == 16 && offset_of!(State, place) == 784);
-const _: () = assert!(offset_of!(State, level) == 792);
-const _: () = assert!(offset_of!(Answer, state) == 0 && offset_of!(Answer, refusal) == 800);
-const _: () = assert!(offset_of!(Answer, number) == 804 && offset_of!(Answer, change) == 808);
+use crate::structs::*;
+use std::os::fd::{AsRawFd, BorrowedFd};
 
 // size_t is usize on the one machine that the library is for
 #[cfg(not(all(target_arch = "x86_64", unix)))]
-compile_error!("libnidhaaguf.a is for x86-64 with the System V calling convention");
+compile_error!("the library is for x86-64 with the System V calling convention");
 
 extern "C" {
     fn nidhaaguf_set_up(
@@ -129,6 +44,27 @@ extern "C" {
         packet_length: usize,
         clock: u32,
     ) -> Answer;
+    fn nidhaaguf_burst(
+        state: State,
+        row: *mut u32,
+        row_length: usize,
+        packets: *mut u8,
+        packets_length: usize,
+        records: *mut u32,
+        records_length: usize,
+        clock: u32,
+    ) -> Answer;
+    fn nidhaaguf_serve(
+        descriptor: i32,
+        state: State,
+        row: *mut u32,
+        row_length: usize,
+        buffer: *mut u8,
+        buffer_length: usize,
+        counters: *mut [u64; COUNTERS],
+        clock: u32,
+        most: u32,
+    ) -> Served;
 }
 
 /// Sets up a service; `state` is only what a refusal gives back. Refusals 1 to 4.
@@ -167,4 +103,52 @@ pub fn outbound(state: State, row: &mut [u32], packet: &mut [u8], clock: u32) ->
     let (bytes, length) = (packet.as_mut_ptr(), packet.len());
     // SAFETY: as for inbound.
     unsafe { nidhaaguf_outbound(state, row.as_mut_ptr(), row.len(), bytes, length, clock) }
+}
+
+/// A tick at `clock`, then the packets, each as inbound or outbound by its destination. Packet k has `records[4 * k]`
+/// bytes, at most [`PLACE`](crate::raw::PLACE), from byte `PLACE` * k on; the three words after its length become its
+/// answer. The answer given back is the tick's, with the state after the packets. Refusals 15, 11.
+pub fn burst(
+    state: State,
+    row: &mut [u32],
+    packets: &mut [u8],
+    records: &mut [u32],
+    clock: u32,
+) -> Answer {
+    let (words, word_count) = (row.as_mut_ptr(), row.len());
+    let (bytes, byte_count) = (packets.as_mut_ptr(), packets.len());
+    let (answers, answer_count) = (records.as_mut_ptr(), records.len());
+    // SAFETY: three exclusive references, of which no two can overlap, lent whole for the call; any values are taken.
+    unsafe {
+        nidhaaguf_burst(state, words, word_count, bytes, byte_count, answers, answer_count, clock)
+    }
+}
+
+/// A tick at `clock`, then packets that are read from `descriptor`, each as inbound or outbound by its destination, and
+/// written back to it where they are accepted: until a read gives nothing or `most` are taken. Answers are added up in
+/// `counters`: place 18 * way + i, way 0 inbound and 1 outbound; i = 0 opened, 1 kept, 2 ended, 2 + n refusal n.
+/// Where fewer than `most` were taken and the read failed, the error is `std::io::Error::last_os_error()`. Refusals 15, 11.
+pub fn serve(
+    descriptor: BorrowedFd<'_>,
+    state: State,
+    row: &mut [u32],
+    buffer: &mut [u8],
+    counters: &mut [u64; COUNTERS],
+    clock: u32,
+    most: u32,
+) -> Served {
+    let (words, word_count) = (row.as_mut_ptr(), row.len());
+    let (bytes, byte_count) = (buffer.as_mut_ptr(), buffer.len());
+    let number = descriptor.as_raw_fd();
+    // SAFETY: as for burst; the descriptor is open for the call.
+    unsafe {
+        nidhaaguf_serve(number, state, words, word_count, bytes, byte_count, counters, clock, most)
+    }
+}
+
+/// Records as the words that a burst takes.
+pub fn words(records: &mut [Record]) -> &mut [u32] {
+    let length = records.len() * WORDS_PER_RECORD;
+    // SAFETY: a record is four words without padding (asserted beside it), any of which may have any value.
+    unsafe { std::slice::from_raw_parts_mut(records.as_mut_ptr().cast(), length) }
 }

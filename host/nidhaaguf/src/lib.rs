@@ -44,8 +44,8 @@
 //!
 //! # Building
 //!
-//! `rt staticlib nidhaaguf` at the top of the repository writes target/staticlib/libnidhaaguf.a, where this crate's
-//! build looks for it; the environment variable NIDHAAGUF_LIB names another place.
+//! `rt staticlib nidhaaguf` and `rt staticlib nidhaaguf_serve` at the top of the repository write the two archives to
+//! target/staticlib, where this crate's build looks for them; the environment variable NIDHAAGUF_LIB names another place.
 
 #![deny(unsafe_code)]
 #![warn(missing_debug_implementations)]
@@ -57,6 +57,7 @@ mod passed;
 pub mod raw;
 mod refusal;
 mod settings;
+mod structs;
 
 pub use director::Director;
 pub use passed::{Change, Passed};

@@ -13,5 +13,6 @@
 //! assert_eq!(answer.state, raw::State::default());
 //! ```
 
-pub use crate::ffi::{count, inbound, outbound, set_up, set_weight, tick};
-pub use crate::ffi::{Answer, Server, Servers, Service, State, PLACES, WORDS_PER_SLOT};
+pub use crate::ffi::{burst, count, inbound, outbound, serve, set_up, set_weight, tick, words};
+pub use crate::structs::{Answer, Record, Served, Server, Servers, Service, State};
+pub use crate::structs::{COUNTERS, PLACE, PLACES, WORDS_PER_RECORD, WORDS_PER_SLOT};
