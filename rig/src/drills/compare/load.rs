@@ -16,19 +16,35 @@ pub struct Kind {
     /// What it is called.
     pub title: &'static str,
     flags: &'static [&'static str],
+    sql: &'static str,
     /// Whether each transaction has a connection of its own.
     pub reconnect: bool,
 }
 
 /// A client that waits for each answer.
-pub const ONE_CLIENT: Kind =
-    Kind { title: "1 client", flags: &["-M", "prepared", "-c", "1"], reconnect: false };
+pub const ONE_CLIENT: Kind = Kind {
+    title: "1 client",
+    flags: &["-M", "prepared", "-c", "1"],
+    sql: "select 1;\n",
+    reconnect: false,
+};
 /// More clients than the machine has processors.
-pub const EIGHT_CLIENTS: Kind =
-    Kind { title: "8 clients", flags: &["-M", "prepared", "-c", "8", "-j", "2"], reconnect: false };
+pub const EIGHT_CLIENTS: Kind = Kind {
+    title: "8 clients",
+    flags: &["-M", "prepared", "-c", "8", "-j", "2"],
+    sql: "select 1;\n",
+    reconnect: false,
+};
+/// Answers that TCP hands to its link in pieces of up to 64 kB, which a TUN device is given as packets of 1,500 bytes.
+pub const LARGE_ANSWERS: Kind =
+    Kind { title: "answers of 100 kB", sql: "select repeat('x', 100000);\n", ..EIGHT_CLIENTS };
 /// A connection for each transaction.
-pub const CONNECTIONS: Kind =
-    Kind { title: "connections", flags: &["-C", "-c", "8", "-j", "2"], reconnect: true };
+pub const CONNECTIONS: Kind = Kind {
+    title: "connections",
+    flags: &["-C", "-c", "8", "-j", "2"],
+    sql: "select 1;\n",
+    reconnect: true,
+};
 
 /// One measurement: transactions a second, and the share of one processor that the program in the middle took.
 #[derive(Clone, Copy, Debug)]
@@ -51,8 +67,8 @@ pub fn drive(lab: &Lab, way: &Standing, kind: &Kind, seconds: u32) -> Result<Mea
 
 /// Runs pgbench; tells transactions a second. Any failure of a transaction or connection fails.
 fn pgbench(lab: &Lab, way: &Standing, kind: &Kind, seconds: u32) -> Result<f64, Failure> {
-    let script = lab.run.join("one.sql");
-    fs::write(&script, "select 1;\n")?;
+    let script = lab.run.join("transaction.sql");
+    fs::write(&script, kind.sql)?;
     let mut command = lab.command("client", PGBENCH);
     command.args(["-n", "-T", &seconds.to_string(), "-f"]).arg(script).args(kind.flags);
     command.args(["-h", &way.address, "-p", way.port, "-U", "postgres", "postgres"]);

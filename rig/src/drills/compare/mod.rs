@@ -5,6 +5,7 @@
 mod haproxy;
 mod load;
 mod nat;
+mod numbers;
 pub mod profile;
 mod stacks;
 mod table;
@@ -15,7 +16,7 @@ use crate::lab::network;
 use crate::lab::postgres::Postgres;
 use crate::lab::{fail, Failure, Lab, REPLICAS};
 use crate::timeline::Timeline;
-use load::{drive, Kind, CONNECTIONS, EIGHT_CLIENTS, ONE_CLIENT};
+use load::{drive, Kind, CONNECTIONS, EIGHT_CLIENTS, LARGE_ANSWERS, ONE_CLIENT};
 use std::path::PathBuf;
 use ways::{FAST, FASTER, FEW, SLOTS};
 
@@ -24,7 +25,7 @@ const ROUNDS: usize = 7;
 /// Seconds for one measurement.
 const SECONDS: u32 = 2;
 
-const KINDS: [Kind; 3] = [ONE_CLIENT, EIGHT_CLIENTS, CONNECTIONS];
+const KINDS: [Kind; 4] = [ONE_CLIENT, EIGHT_CLIENTS, LARGE_ANSWERS, CONNECTIONS];
 
 /// What is to be compared.
 #[derive(Debug, PartialEq, Eq)]
@@ -51,7 +52,7 @@ impl Order {
 
 /// Measures all ways, and prints them as tables.
 pub fn run(lab: &Lab, timeline: &Timeline, order: &Order) -> Result<(), Failure> {
-    timeline.title("Throughput: pgbench, `select 1`");
+    timeline.title("Throughput: pgbench");
     network::make(lab, REPLICAS)?;
     let _replicas = Postgres::start_all(lab, REPLICAS)?;
     let (ways, rounds) = (ways::all(order.beside.as_deref()), order.rounds);
@@ -130,8 +131,9 @@ mod tests {
             let turns = turns(ways, ways);
             let places: HashSet<_> =
                 turns.iter().map(|turn| (turn.round, turn.kind, turn.way)).collect();
-            assert_eq!((turns.len(), places.len()), (3 * ways * ways, 3 * ways * ways));
-            let first: HashSet<_> = turns.iter().step_by(3 * ways).map(|turn| turn.way).collect();
+            let each = KINDS.len() * ways;
+            assert_eq!((turns.len(), places.len()), (each * ways, each * ways));
+            let first: HashSet<_> = turns.iter().step_by(each).map(|turn| turn.way).collect();
             assert_eq!(first.len(), ways);
             assert_eq!(turns.iter().filter(|turn| turn.is_last).count(), ways);
         }

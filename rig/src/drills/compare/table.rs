@@ -2,48 +2,15 @@
 //! rounds is told, with the least and the greatest.
 
 use super::load::{Kind, Measured};
+use super::numbers::{grouped, Spread};
 use super::ways::Way;
 
 /// What was measured: by way, by kind of load, by round.
 pub type Results = Vec<Vec<Vec<Measured>>>;
 
-/// Numbers of several rounds: the middle one, the least and the greatest.
-#[derive(Clone, Copy, Debug, PartialEq)]
-struct Spread {
-    median: f64,
-    least: f64,
-    greatest: f64,
-}
-
-impl Spread {
-    fn of(numbers: impl Iterator<Item = f64>) -> Spread {
-        let mut sorted: Vec<f64> = numbers.collect();
-        sorted.sort_by(f64::total_cmp);
-        let greatest = sorted[sorted.len() - 1];
-        Spread { median: sorted[sorted.len() / 2], least: sorted[0], greatest }
-    }
-
-    /// Of the rates of two ways, each divided within its round.
-    fn of_ratios(here: &[Measured], beside: &[Measured]) -> Spread {
-        Spread::of(here.iter().zip(beside).map(|(here, beside)| here.rate / beside.rate))
-    }
-
-    fn range(self) -> String {
-        format!("{:.2} to {:.2}", self.least, self.greatest)
-    }
-}
-
-/// A number with a comma between the thousands.
-fn grouped(number: f64) -> String {
-    let digits = format!("{number:.0}");
-    let mut text = String::new();
-    for (at, digit) in digits.chars().enumerate() {
-        if at > 0 && (digits.len() - at) % 3 == 0 {
-            text.push(',');
-        }
-        text.push(digit);
-    }
-    text
+/// The rates of two ways, each divided within its round.
+fn ratios(here: &[Measured], beside: &[Measured]) -> Spread {
+    Spread::of(here.iter().zip(beside).map(|(here, beside)| here.rate / beside.rate))
 }
 
 /// For each kind of load a table of all ways beside the direct one.
@@ -59,7 +26,7 @@ pub fn print_rates(ways: &[Way], kinds: &[Kind], results: &Results) {
 
 fn rate_line(way: &Way, here: &[Measured], direct: &[Measured]) -> String {
     let rate = Spread::of(here.iter().map(|one| one.rate)).median;
-    let ratios = Spread::of_ratios(here, direct);
+    let ratios = ratios(here, direct);
     let range = if *way == Way::Direct { String::new() } else { format!(" {}", ratios.range()) };
     let shares: Option<Vec<f64>> = here.iter().map(|one| one.share).collect();
     let share = shares.map_or(String::new(), |shares| {
@@ -76,7 +43,7 @@ pub fn print_beside(ways: &[Way], kinds: &[Kind], results: &Results) {
     for (here, way) in ways.iter().enumerate() {
         for (beside, other) in ways.iter().enumerate().filter(|(_, other)| is_told(way, other)) {
             let cells: Vec<String> = (0..kinds.len())
-                .map(|kind| Spread::of_ratios(&results[here][kind], &results[beside][kind]))
+                .map(|kind| ratios(&results[here][kind], &results[beside][kind]))
                 .map(|ratios| format!("{:.2} ({})", ratios.median, ratios.range()))
                 .collect();
             println!("| {} / {} | {} |", way.name(), other.name(), cells.join(" | "));
@@ -104,18 +71,12 @@ mod tests {
         rates.iter().map(|&rate| Measured { rate, share: Some(rate / 100.0) }).collect()
     }
 
-    #[test]
-    fn the_median_is_the_middle_one() {
-        let want = Spread { median: 20.0, least: 10.0, greatest: 30.0 };
-        assert_eq!(Spread::of([30.0, 10.0, 20.0].into_iter()), want);
-    }
-
     /// The ratio of the medians would be 0.5, and is in no round.
     #[test]
     fn ratios_are_taken_within_a_round() {
         let (here, beside) = (measured(&[10.0, 20.0, 90.0]), measured(&[10.0, 80.0, 40.0]));
         let want = Spread { median: 1.0, least: 0.25, greatest: 2.25 };
-        assert_eq!(Spread::of_ratios(&here, &beside), want);
+        assert_eq!(ratios(&here, &beside), want);
     }
 
     #[test]
@@ -125,12 +86,6 @@ mod tests {
         assert!(line.ends_with(" | 20 | 0.50 | 0.25 to 0.75 | 20% |"), "{line}");
         let none = [Measured { rate: 1234.4, share: None }];
         assert_eq!(rate_line(&Way::Direct, &none, &none), "| directly | 1,234 | 1.00 | | |");
-    }
-
-    #[test]
-    fn thousands_are_parted() {
-        let numbers = [0.0, 999.4, 1000.0, 1234567.0].map(grouped);
-        assert_eq!(numbers, ["0", "999", "1,000", "1,234,567"]);
     }
 
     #[test]

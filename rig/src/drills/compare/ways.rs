@@ -3,6 +3,7 @@
 use super::haproxy::{self, Haproxy};
 use super::load::Kind;
 use super::nat::{self, Nat};
+use super::numbers::grouped;
 use crate::lab::director::{Director, Options};
 use crate::lab::network::{self, balanced, direct, DEVICE, SERVER_PORT, VIRTUAL, VIRTUAL_PORT};
 use crate::lab::{Failure, Lab, Running, REPLICAS};
@@ -77,8 +78,10 @@ impl Way {
             Way::Direct => "directly".into(),
             Way::Nat => "kernel NAT (nftables)".into(),
             Way::Haproxy => "HAProxy, TCP mode".into(),
-            Way::Director(slots, None) => format!("nidhaagufd, {slots} slots"),
-            Way::Director(slots, Some(_)) => format!("the other nidhaagufd, {slots} slots"),
+            Way::Director(slots, None) => format!("nidhaagufd, {} slots", grouped(*slots as f64)),
+            Way::Director(slots, Some(_)) => {
+                format!("the other nidhaagufd, {} slots", grouped(*slots as f64))
+            }
             Way::Copier => "the limit: reads and writes alone".into(),
         }
     }
