@@ -49,6 +49,8 @@ pub const NIDHAAGUFCTL: Program = Program::named("nidhaagufctl");
 pub const IMPAIR: Program = Program::named("impair");
 /// Sends packets on by fixed addresses.
 pub const COPIER: Program = Program::named("copier");
+/// Fills the director's table with clients that don't exist.
+pub const FILL: Program = Program::named("fill");
 /// Waits.
 pub const SLEEP: Program = Program::named("sleep");
 

@@ -2,6 +2,7 @@
 //! and through the director, over the same links and replicas, in turn; beside another build of the director, and beside a program
 //! that does nothing but send packets on.
 
+mod fill;
 mod haproxy;
 mod load;
 mod nat;
@@ -18,7 +19,7 @@ use crate::lab::{fail, Failure, Lab, REPLICAS};
 use crate::timeline::Timeline;
 use load::{drive, Kind, CONNECTIONS, EIGHT_CLIENTS, LARGE_ANSWERS, ONE_CLIENT};
 use std::path::PathBuf;
-use ways::{FAST, FASTER, FEW, SLOTS};
+use ways::{FAST, FASTER, SLOTS};
 
 /// Every way is measured so often, unless another number is given.
 const ROUNDS: usize = 7;
@@ -90,8 +91,8 @@ fn turns(rounds: usize, ways: usize) -> Vec<Turn> {
     let each = KINDS.len() * ways;
     let turn = |number: usize| {
         let (round, within) = (number / each, number % each);
-        // the ways are 6 or 8, which have no divisor with 5 in common
-        let way = (within + 5 * round) % ways;
+        // the ways are 7 or 10, which have no divisor with 3 in common
+        let way = (within + 3 * round) % ways;
         Turn { round, kind: within / ways, way, is_last: within + 1 == each }
     };
     (0..rounds * each).map(turn).collect()
@@ -99,7 +100,7 @@ fn turns(rounds: usize, ways: usize) -> Vec<Turn> {
 
 fn print_notes(rounds: usize) {
     println!("\nMedians of {rounds} rounds; each ratio is of two rates of one round. CPU: of one core, by the program in the middle.");
-    println!("Connections: each transaction has its own; for these nidhaagufd's clock ran {FAST} ({FEW} slots: {FASTER}) times as fast.");
+    println!("Connections: each transaction has its own; for these nidhaagufd's clock ran {FAST} (with few slots {FASTER}) times as fast.");
     println!(
         "At its true clock a finished connection keeps its slot for {FINISHED} s: {SLOTS} slots take {} new ones a second over time.",
         SLOTS / FINISHED as usize
@@ -110,6 +111,7 @@ fn print_notes(rounds: usize) {
 mod tests {
     use super::*;
     use std::collections::HashSet;
+    use std::path::Path;
 
     #[test]
     fn options_are_read_in_any_order() {
@@ -127,7 +129,8 @@ mod tests {
 
     #[test]
     fn every_way_is_measured_in_every_round_and_begins_one() {
-        for ways in [6, 8] {
+        for beside in [None, Some(Path::new("/x"))] {
+            let ways = ways::all(beside).len();
             let turns = turns(ways, ways);
             let places: HashSet<_> =
                 turns.iter().map(|turn| (turn.round, turn.kind, turn.way)).collect();

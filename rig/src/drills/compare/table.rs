@@ -52,18 +52,19 @@ pub fn print_beside(ways: &[Way], kinds: &[Kind], results: &Results) {
 }
 
 /// Whether a way is told beside another: this build of the director beside what a user would pick instead, beside the other build
-/// with as many slots, and beside the limit.
+/// with the same table, and beside the limit.
 fn is_told(way: &Way, other: &Way) -> bool {
-    let Way::Director(slots, None) = way else { return false };
+    let Way::Director(table, None) = way else { return false };
     match other {
         Way::Direct => false,
         Way::Nat | Way::Haproxy | Way::Copier => true,
-        Way::Director(others, build) => build.is_some() && others == slots,
+        Way::Director(others, build) => build.is_some() && others == table,
     }
 }
 
 #[cfg(test)]
 mod tests {
+    use super::super::ways::Table;
     use super::*;
     use std::path::PathBuf;
 
@@ -89,10 +90,12 @@ mod tests {
     }
 
     #[test]
-    fn this_build_is_told_beside_the_other_with_as_many_slots() {
-        let build = |slots, other: bool| Way::Director(slots, other.then(|| PathBuf::from("/x")));
-        assert!(is_told(&build(256, false), &build(256, true)));
-        assert!(!is_told(&build(256, false), &build(4096, true)));
-        assert!(!is_told(&build(256, true), &Way::Nat) && !is_told(&Way::Nat, &Way::Copier));
+    fn this_build_is_told_beside_the_other_with_the_same_table() {
+        let build = |table, other: bool| Way::Director(table, other.then(|| PathBuf::from("/x")));
+        assert!(is_told(&build(Table::Small, false), &build(Table::Small, true)));
+        assert!(!is_told(&build(Table::Small, false), &build(Table::Large, true)));
+        assert!(
+            !is_told(&build(Table::Small, true), &Way::Nat) && !is_told(&Way::Nat, &Way::Copier)
+        );
     }
 }

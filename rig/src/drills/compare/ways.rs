@@ -1,5 +1,6 @@
 //! The ways from the client to the replicas, each set up alone and taken down again: nothing of another way is there meanwhile.
 
+use super::fill;
 use super::haproxy::{self, Haproxy};
 use super::load::Kind;
 use super::nat::{self, Nat};
@@ -12,12 +13,24 @@ use std::path::{Path, PathBuf};
 
 /// The most slots that a director can have, and few.
 pub const SLOTS: usize = 4096;
-/// See above.
-pub const FEW: usize = 256;
-/// How fast the director's clock runs with these where connections come and go all the time.
+const FEW: usize = 256;
+/// How many slots of a full table are used by others. Enough are left for connections that come and go all the time.
+const USED: usize = 3600;
+/// How fast the director's clock runs with many and with few slots where connections come and go all the time.
 pub const FAST: u32 = 120;
 /// See above.
 pub const FASTER: u32 = 600;
+
+/// A director's table.
+#[derive(Clone, Copy, Debug, PartialEq, Eq)]
+pub enum Table {
+    /// Many slots; the clients' connections are in the first ones, where a search ends early.
+    Large,
+    /// Many slots, of which the first are used by others: a search passes them all.
+    Full,
+    /// Few slots.
+    Small,
+}
 
 /// A way from the client to the replicas.
 #[derive(Clone, Debug, PartialEq, Eq)]
@@ -28,8 +41,8 @@ pub enum Way {
     Nat,
     /// A proxy that ends the client's connection.
     Haproxy,
-    /// The director with so many slots: this build, or the one in that folder.
-    Director(usize, Option<PathBuf>),
+    /// The director with that table: this build, or the one in that folder.
+    Director(Table, Option<PathBuf>),
     /// A program on the director's device that only sends packets on.
     Copier,
 }
@@ -65,10 +78,29 @@ pub fn all(beside: Option<&Path>) -> Vec<Way> {
 pub fn on_the_device(beside: Option<&Path>) -> Vec<Way> {
     let builds = [None].into_iter().chain(beside.map(|folder| Some(folder.to_path_buf())));
     let mut ways: Vec<Way> = builds
-        .flat_map(|build| [SLOTS, FEW].map(|slots| Way::Director(slots, build.clone())))
+        .flat_map(|build| Table::ALL.map(|table| Way::Director(table, build.clone())))
         .collect();
     ways.push(Way::Copier);
     ways
+}
+
+impl Table {
+    const ALL: [Table; 3] = [Table::Large, Table::Full, Table::Small];
+
+    fn slots(self) -> usize {
+        match self {
+            Table::Large | Table::Full => SLOTS,
+            Table::Small => FEW,
+        }
+    }
+
+    fn name(self) -> String {
+        let slots = grouped(self.slots() as f64);
+        match self {
+            Table::Large | Table::Small => format!("{slots} slots"),
+            Table::Full => format!("{slots} slots, {} used", grouped(USED as f64)),
+        }
+    }
 }
 
 impl Way {
@@ -78,10 +110,8 @@ impl Way {
             Way::Direct => "directly".into(),
             Way::Nat => "kernel NAT (nftables)".into(),
             Way::Haproxy => "HAProxy, TCP mode".into(),
-            Way::Director(slots, None) => format!("nidhaagufd, {} slots", grouped(*slots as f64)),
-            Way::Director(slots, Some(_)) => {
-                format!("the other nidhaagufd, {} slots", grouped(*slots as f64))
-            }
+            Way::Director(table, None) => format!("nidhaagufd, {}", table.name()),
+            Way::Director(table, Some(_)) => format!("the other nidhaagufd, {}", table.name()),
             Way::Copier => "the limit: reads and writes alone".into(),
         }
     }
@@ -104,8 +134,8 @@ impl Way {
                 let _haproxy = Haproxy::start(lab, REPLICAS)?;
                 at(haproxy::ADDRESS, Some(HAPROXY), Middle::Haproxy { _haproxy })
             }
-            Way::Director(slots, build) => {
-                let director = start_director(lab, *slots, build.clone(), kind)?;
+            Way::Director(table, build) => {
+                let director = start_director(lab, *table, build.clone(), kind)?;
                 at(VIRTUAL, Some(NIDHAAGUFD), Middle::Director(director))
             }
             Way::Copier => {
@@ -130,18 +160,21 @@ impl Standing {
 /// for 120 s, and the table would be full after a few seconds.
 fn start_director(
     lab: &Lab,
-    slots: usize,
+    table: Table,
     build: Option<PathBuf>,
     kind: &Kind,
 ) -> Result<Director, Failure> {
-    let clock_speed = match (kind.reconnect, slots) {
+    let clock_speed = match (kind.reconnect, table) {
         (false, _) => 1,
-        (true, SLOTS) => FAST,
-        (true, _) => FASTER,
+        (true, Table::Small) => FASTER,
+        (true, _) => FAST,
     };
-    let options = Options { slots, clock_speed, build, ..Options::default() };
+    let options = Options { slots: table.slots(), clock_speed, build, ..Options::default() };
     let director = Director::start(lab, &options)?;
     network::attach(lab, REPLICAS)?;
+    if table == Table::Full {
+        fill::fill(lab, &director, USED)?;
+    }
     Ok(director)
 }
 
