@@ -55,6 +55,14 @@ pub struct Measured {
     pub share: Option<f64>,
 }
 
+impl Measured {
+    /// What the program in the middle took of the processor's time for a transaction, in microseconds. Other work on the machine
+    /// lowers the rate and the share alike.
+    pub fn cost(&self) -> Option<f64> {
+        self.share.map(|share| 1e6 * share / self.rate)
+    }
+}
+
 /// Lets pgbench run for so many seconds, and looks what the program in the middle took meanwhile.
 pub fn drive(lab: &Lab, way: &Standing, kind: &Kind, seconds: u32) -> Result<Measured, Failure> {
     let time = || way.program.map(|program| processor_time(lab, program)).transpose();

@@ -43,8 +43,8 @@ fn line(lab: &Lab, way: &Way) -> Result<String, Failure> {
     let measured = drive(lab, &standing, &EIGHT_CLIENTS, SECONDS)?;
     let status = perf.wait(PATIENCE)?;
     ensure(status.success(), format!("perf ended with {status}: {}", lab.last_lines("perf.log")))?;
-    let Some(share) = measured.share else { return fail("there is no program in the middle") };
-    let mut line = format!("| {} | {:.1} |", way.name(), 1e6 * share / measured.rate);
+    let Some(cost) = measured.cost() else { return fail("there is no program in the middle") };
+    let mut line = format!("| {} | {cost:.1} |", way.name());
     let (samples, parts) = shares(&script(&data)?);
     ensure(samples >= FEWEST, format!("perf took {samples} samples, and {FEWEST} are needed"))?;
     parts.iter().for_each(|part| line += &format!(" {:.0}% |", 100.0 * part));

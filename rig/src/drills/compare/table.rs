@@ -16,8 +16,11 @@ fn ratios(here: &[Measured], beside: &[Measured]) -> Spread {
 /// For each kind of load a table of all ways beside the direct one.
 pub fn print_rates(ways: &[Way], kinds: &[Kind], results: &Results) {
     for (number, kind) in kinds.iter().enumerate() {
-        println!("\n| {} | a second | of the direct rate | in the rounds | CPU |", kind.title);
-        println!("|---|---|---|---|---|");
+        println!(
+            "\n| {} | a second | of the direct rate | in the rounds | CPU | µs a transaction |",
+            kind.title
+        );
+        println!("|---|---|---|---|---|---|");
         for (way, measured) in ways.iter().zip(results) {
             println!("{}", rate_line(way, &measured[number], &results[0][number]));
         }
@@ -28,11 +31,15 @@ fn rate_line(way: &Way, here: &[Measured], direct: &[Measured]) -> String {
     let rate = Spread::of(here.iter().map(|one| one.rate)).median;
     let ratios = ratios(here, direct);
     let range = if *way == Way::Direct { String::new() } else { format!(" {}", ratios.range()) };
-    let shares: Option<Vec<f64>> = here.iter().map(|one| one.share).collect();
-    let share = shares.map_or(String::new(), |shares| {
-        format!(" {:.0}%", 100.0 * Spread::of(shares.into_iter()).median)
-    });
-    format!("| {} | {} | {:.2} |{range} |{share} |", way.name(), grouped(rate), ratios.median)
+    let of_program = |number: fn(&Measured) -> Option<f64>| {
+        let numbers: Option<Vec<f64>> = here.iter().map(number).collect();
+        numbers.map(|numbers| Spread::of(numbers.into_iter()).median)
+    };
+    let share = of_program(|one| one.share);
+    let share = share.map_or(String::new(), |share| format!(" {:.0}%", 100.0 * share));
+    let cost = of_program(Measured::cost).map_or(String::new(), |cost| format!(" {cost:.1}"));
+    let (name, rate) = (way.name(), grouped(rate));
+    format!("| {name} | {rate} | {:.2} |{range} |{share} |{cost} |", ratios.median)
 }
 
 /// The director beside the other ways: its rate divided by theirs.
@@ -84,9 +91,9 @@ mod tests {
     fn a_line_tells_rate_ratio_range_and_share() {
         let (here, direct) = (measured(&[30.0, 10.0, 20.0]), measured(&[40.0, 40.0, 40.0]));
         let line = rate_line(&Way::Copier, &here, &direct);
-        assert!(line.ends_with(" | 20 | 0.50 | 0.25 to 0.75 | 20% |"), "{line}");
+        assert!(line.ends_with(" | 20 | 0.50 | 0.25 to 0.75 | 20% | 10000.0 |"), "{line}");
         let none = [Measured { rate: 1234.4, share: None }];
-        assert_eq!(rate_line(&Way::Direct, &none, &none), "| directly | 1,234 | 1.00 | | |");
+        assert_eq!(rate_line(&Way::Direct, &none, &none), "| directly | 1,234 | 1.00 | | | |");
     }
 
     #[test]
