@@ -17,9 +17,9 @@ const FEW: usize = 256;
 /// How many slots of a full table are used by others. Enough are left for connections that come and go all the time.
 const USED: usize = 3600;
 /// How fast the director's clock runs with many and with few slots where connections come and go all the time.
-pub const FAST: u32 = 120;
+pub const FAST: u32 = 150;
 /// See above.
-pub const FASTER: u32 = 600;
+pub const FASTER: u32 = 300;
 
 /// A director's table.
 #[derive(Clone, Copy, Debug, PartialEq, Eq)]
