@@ -5,7 +5,7 @@
 //! instead of few addresses with many ports; with `--first` the packets are of the client in the first slot, not in the last that is
 //! used; with `--free=N` the last N slots are free and not one; with `--scheduler=N` the scheduler is N and not 1. Count two runs with
 //! different REPS under callgrind: their difference is the calls alone (the script `bench` at the top of the repository does that).
-//! With `--time` it prints nanoseconds a call instead.
+//! With `--time` it prints nanoseconds a call instead, of the first three sides.
 
 mod many;
 mod plain;
@@ -26,11 +26,14 @@ fn main() {
     let [side, call, slots, servers, reps] = words[..] else { usage() };
     let call = Call::named(call).unwrap_or_else(|| usage());
     let scene = Scene::new(call, plan(number(slots), number(servers), &flags));
-    let reps = number(reps);
+    let (reps, timed) = (number(reps), flags.contains(&"--time"));
+    if timed && ["serve", "burst"].contains(&side) {
+        usage();
+    }
     let begin = Instant::now();
     let told = run(&scene, side, reps);
     let each = begin.elapsed().as_nanos() as f64 / reps.max(1) as f64;
-    match flags.contains(&"--time") {
+    match timed {
         true => println!("{each:.0}"),
         false => println!("{told}"),
     }

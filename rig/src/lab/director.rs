@@ -143,3 +143,14 @@ fn configuration(options: &Options, socket: &str) -> String {
     }
     text
 }
+
+#[cfg(test)]
+mod tests {
+    use super::*;
+
+    #[test]
+    fn another_build_must_be_there() {
+        let missing = path_beginning_with(Path::new("/nowhere"));
+        assert_eq!(missing, fail("there is no /nowhere/nidhaagufd"));
+    }
+}
