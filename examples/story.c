@@ -6,11 +6,9 @@
  *     cc -Iinclude examples/story.c target/staticlib/libnidhaaguf.a -o story
  *     ./story | diff - examples/story.txt
  */
-#include <nidhaaguf.h>
+#include "segment.h"
 
 #include <stdio.h>
-
-enum { FIN = 1, SYN = 2, RST = 4, ACK = 16 };
 
 /* 192.0.2.10:5432, the service; 10.1.0.5 and 10.1.0.6, port 6432, its servers; 10.0.0.1, where the clients are. */
 static const uint32_t VIRTUAL = 0xC000020A;
@@ -23,44 +21,6 @@ static const uint32_t CLIENT = 0x0A000001;
 static uint32_t row[WORDS];
 
 static NidhaagufState state;
-
-static void put_word(uint8_t *at, uint16_t word) {
-    at[0] = (uint8_t)(word >> 8);
-    at[1] = (uint8_t)word;
-}
-
-static void put_address(uint8_t *at, uint32_t address) {
-    put_word(at, (uint16_t)(address >> 16));
-    put_word(at + 2, (uint16_t)address);
-}
-
-/* The checksum of an IPv4 header of 20 bytes whose checksum field is 0. */
-static uint16_t header_checksum(const uint8_t *header) {
-    uint32_t sum = 0;
-    for (int i = 0; i < 20; i += 2)
-        sum += (uint32_t)header[i] << 8 | header[i + 1];
-    while (sum > 0xFFFF)
-        sum = (sum & 0xFFFF) + (sum >> 16);
-    return (uint16_t)~sum;
-}
-
-/* A TCP segment with no data; its own checksum is not judged by a director, and is left 0. */
-static void make_segment(uint8_t packet[40], uint32_t source, uint16_t source_port, uint32_t destination,
-                         uint16_t destination_port, uint8_t flags) {
-    for (int i = 0; i < 40; i++)
-        packet[i] = 0;
-    packet[0] = 0x45;
-    packet[3] = 40;
-    packet[8] = 64;
-    packet[9] = NIDHAAGUF_TCP;
-    put_address(packet + 12, source);
-    put_address(packet + 16, destination);
-    put_word(packet + 10, header_checksum(packet));
-    put_word(packet + 20, source_port);
-    put_word(packet + 22, destination_port);
-    packet[32] = 0x50;
-    packet[33] = flags;
-}
 
 /* Keeps the state after a call; false for a refusal, which is printed. */
 static int accepted(NidhaagufAnswer answer) {
@@ -89,14 +49,14 @@ static void tell_packet(NidhaagufAnswer answer) {
 
 /* A packet of a client's port to the service. */
 static void from_client(uint16_t port, uint8_t flags, uint32_t clock) {
-    uint8_t packet[40];
+    uint8_t packet[SEGMENT_LENGTH];
     make_segment(packet, CLIENT, port, VIRTUAL, 5432, flags);
     tell_packet(nidhaaguf_inbound(state, row, WORDS, packet, sizeof packet, clock));
 }
 
 /* A packet of the first server to a client's port. */
 static void from_first(uint16_t port, uint8_t flags, uint32_t clock) {
-    uint8_t packet[40];
+    uint8_t packet[SEGMENT_LENGTH];
     make_segment(packet, FIRST, 6432, CLIENT, port, flags);
     tell_packet(nidhaaguf_outbound(state, row, WORDS, packet, sizeof packet, clock));
 }

@@ -1,9 +1,14 @@
 /*
  * Nidhaaguf, a packet director: one virtual address and port over 1 to 64 servers, for TCP or UDP over IPv4.
  *
- * Six calls, written and proved in Rattle (crates/nidhaaguf). Each is handed the state and gives the state after it
- * back, by value; the connection table (the row) and the packet are lent. The library keeps nothing between calls,
- * allocates nothing and calls nothing.
+ * Eight calls, written and proved in Rattle (crates/nidhaaguf, crates/nidhaaguf_serve). Each is handed the state and gives
+ * the state after it back, by value; the connection table (the row) and the packets are lent. The library keeps nothing
+ * between calls and allocates nothing.
+ *
+ * Six calls do one thing each. nidhaaguf_burst and nidhaaguf_serve are a tick and many packets under one judgement of the
+ * state: what they do is what the single calls do one after another, at a fraction of the cost for each packet. A program
+ * with packets in its own memory takes bursts; one whose packets come by a descriptor, as from a TUN device, can have them
+ * read and written by a serve.
  *
  *     NidhaagufState   state = {0};
  *     uint32_t         row[5 * 1024];                         // 1,024 connections
@@ -18,13 +23,17 @@
  *     state = answer.state;
  *     if (answer.refusal == NIDHAAGUF_ACCEPTED) ..            // send the packet: it is rewritten for server answer.number
  *
- * Link with libnidhaaguf.a, which `rt staticlib nidhaaguf` writes to target/staticlib. x86-64, System V calling convention.
+ * Two archives, which `rt staticlib nidhaaguf` and `rt staticlib nidhaaguf_serve` write to target/staticlib; a program may
+ * be linked with either or both. x86-64, System V calling convention.
+ * - libnidhaaguf.a has the six calls and nidhaaguf_burst. It calls nothing but memcpy and memset.
+ * - libnidhaaguf_serve.a has nidhaaguf_serve alone. It calls the C library's read and write, too.
  *
  * What the caller owes, in every call:
- * - `row` points to `row_length` words and `packet` to `packet_length` bytes, which nothing else writes during the call;
- *   row and packet must not overlap. A length of 0 still takes a pointer that is not null and is aligned.
- * Nothing else: the state, the row, the packet and the other arguments may hold anything, and every call then ends with
- * the answer that its rules give (15, where the state and the row don't fit together).
+ * - What is lent is there: `row` points to `row_length` words, `packet` to `packet_length` bytes, and so on; a serve's
+ *   `counters` to 36 numbers of 64 bits. Nothing else writes there during the call, and no two of them overlap. A length
+ *   of 0 still takes a pointer that is not null and is aligned.
+ * Nothing else: the state, the row, the packets and the other arguments may hold anything, and every call then ends with
+ * the answer that its rules give (15, where the state and the row don't fit together). What a serve waits for is said there.
  *
  * The rules that each call keeps are in docs/SCOPE.md, cited here as SCOPE 4.12; rule 4.N is refusal N.
  *
@@ -89,11 +98,44 @@ typedef struct {
     uint32_t       change;  /* NidhaagufChange of an accepted packet; else 0 */
 } NidhaagufAnswer;
 
+/* Packet k of a burst begins at byte 2,048 k of its packets. */
+#define NIDHAAGUF_PLACE 2048
+
+/* Of a burst's packet: its length in, its answer out. Four words, the form in which nidhaaguf_burst is lent them. */
+typedef struct {
+    uint32_t length;  /* the packet's bytes; all above 2,048 are taken as 2,048 */
+    uint32_t refusal; /* NidhaagufRefusal: 0 for accepted */
+    uint32_t server;  /* accepted: its connection's server; else 0 */
+    uint32_t change;  /* NidhaagufChange of an accepted packet; else 0 */
+} NidhaagufRecord;
+
+/* Words of a record. */
+#define NIDHAAGUF_WORDS_PER_RECORD 4
+
+/*
+ * A serve's counters: first those of inbound packets, then those of outbound ones. NIDHAAGUF_COUNTER tells a counter's place:
+ * way 0 inbound, 1 outbound; refusal and change as an answer has them. counters[NIDHAAGUF_COUNTER(1, 12, 0)] counts the
+ * outbound packets that were refused with 12, counters[NIDHAAGUF_COUNTER(0, 0, NIDHAAGUF_OPENED)] the openings.
+ */
+#define NIDHAAGUF_COUNTERS 36
+#define NIDHAAGUF_COUNTER(way, refusal, change) (18 * (way) + ((refusal) != 0 ? 2 + (refusal) : (change) - 1))
+
+/* What a serve gives back. */
+typedef struct {
+    NidhaagufState state;   /* the state after the tick and the packets */
+    uint32_t       refusal; /* the tick's: 0, 11 or 15 */
+    uint32_t       removed; /* how many connections the tick removed; 0 where it is refused */
+    uint32_t       taken;   /* packets read, accepted or refused */
+    uint32_t       unsent;  /* of these, accepted ones that the descriptor didn't take: write failed */
+} NidhaagufServed;
+
 NIDHAAGUF_ASSERT(sizeof(NidhaagufServer) == 12, "layout of NidhaagufServer");
 NIDHAAGUF_ASSERT(sizeof(NidhaagufService) == 12, "layout of NidhaagufService");
 NIDHAAGUF_ASSERT(sizeof(NidhaagufServers) == 768, "layout of NidhaagufServers");
 NIDHAAGUF_ASSERT(sizeof(NidhaagufState) == 800, "layout of NidhaagufState");
 NIDHAAGUF_ASSERT(sizeof(NidhaagufAnswer) == 816, "layout of NidhaagufAnswer");
+NIDHAAGUF_ASSERT(sizeof(NidhaagufRecord) == 16, "layout of NidhaagufRecord");
+NIDHAAGUF_ASSERT(sizeof(NidhaagufServed) == 816, "layout of NidhaagufServed");
 
 /* NidhaagufService.protocol */
 enum NidhaagufProtocol {
@@ -126,7 +168,7 @@ enum NidhaagufRefusal {
     NIDHAAGUF_OTHER_PROTOCOL = 8,       /* packet: not the service's protocol */
     NIDHAAGUF_MALFORMED_TRANSPORT = 9,  /* packet: the TCP or UDP header's lengths */
     NIDHAAGUF_OTHER_ENDPOINT = 10,      /* packet: inbound not to the service, outbound not from a server */
-    NIDHAAGUF_EARLIER_CLOCK = 11,       /* tick, packet: a clock before state.clock */
+    NIDHAAGUF_EARLIER_CLOCK = 11,       /* tick, packet, burst, serve: a clock before state.clock */
     NIDHAAGUF_NO_CONNECTION = 12,       /* packet: it belongs to no connection and opens none */
     NIDHAAGUF_TABLE_FULL = 13,          /* packet: it would open a connection, and the row has no room */
     NIDHAAGUF_NO_WEIGHT = 14,           /* packet: it would open a connection, and every weight is 0 */
@@ -182,6 +224,47 @@ NidhaagufAnswer nidhaaguf_inbound(NidhaagufState state, uint32_t *row, size_t ro
  */
 NidhaagufAnswer nidhaaguf_outbound(NidhaagufState state, uint32_t *row, size_t row_length,
                                    uint8_t *packet, size_t packet_length, uint32_t clock);
+
+/*
+ * A tick at `clock`, then packets one after another at that clock, each as nidhaaguf_inbound or nidhaaguf_outbound by its
+ * destination: inbound where it has fewer than 20 bytes or where bytes 16 to 19 are the virtual address, else outbound.
+ *
+ * Packet k has min(records[4 k], 2,048) bytes from byte 2,048 k of `packets` on. Its record's other three words become its
+ * answer: refusal, server and change, as NidhaagufAnswer has them. There are as many packets as there are both whole places
+ * and whole records: min(packets_length / 2,048, records_length / 4). A refused packet is as it was, and doesn't stop the
+ * burst. Lengths, bytes past a packet's end, and places and records past the last packet stay as they are.
+ *
+ *     uint8_t         packets[64 * NIDHAAGUF_PLACE];
+ *     NidhaagufRecord records[64];                            // records[k].length: how long packet k is
+ *     answer = nidhaaguf_burst(state, row, 5 * 1024, packets, sizeof packets, (uint32_t *)records, 4 * 64, seconds);
+ *
+ * The answer is the tick's (its refusal; `number` connections removed; change 0), with the state after the packets. A refused
+ * tick changes nothing at all: state, row, packets and records are as they came. Refusals 15, 11.
+ */
+NidhaagufAnswer nidhaaguf_burst(NidhaagufState state, uint32_t *row, size_t row_length,
+                                uint8_t *packets, size_t packets_length, uint32_t *records, size_t records_length,
+                                uint32_t clock);
+
+/*
+ * A tick at `clock`, then packets as they come: read from `descriptor` into `buffer`, taken as nidhaaguf_inbound or
+ * nidhaaguf_outbound takes them at that clock (which of the two, as for a burst), and written back to it where they are
+ * accepted; until a read gives nothing or `most` packets are taken. Each answer adds 1 to one of the 36 counters.
+ *
+ * - The descriptor: one read gives one packet, from the first byte of its IPv4 header on, and one write takes one. A TUN
+ *   device without packet information (IFF_NO_PI) does so, and a datagram socket. A packet longer than the buffer is cut by
+ *   the read, and then refused with 6.
+ * - It waits where the descriptor waits: nidhaaguf_serve returns when a read gives 0 bytes or fails, a signal's EINTR
+ *   included. errno is then that read's; set it to 0 before the call to tell an end from an error. With taken == most no such
+ *   read was made. A signal that comes just before the read is not seen by it: repeat it until the call has returned.
+ * - The clock stands still meanwhile: packets of a long wait are taken at the clock of its beginning.
+ * - A write that fails makes its packet one of `unsent`; the packet has been taken, and its connection stands as if it had been
+ *   sent. Where a write may raise SIGPIPE, ignore that signal.
+ *
+ * A refused tick reads nothing and changes nothing: the state comes back as it came. Refusals 15, 11.
+ */
+NidhaagufServed nidhaaguf_serve(int32_t descriptor, NidhaagufState state, uint32_t *row, size_t row_length,
+                                uint8_t *buffer, size_t buffer_length, uint64_t *counters /* 36 */,
+                                uint32_t clock, uint32_t most);
 
 #ifdef __cplusplus
 }

@@ -19,6 +19,11 @@ pub enum Kind {
     Junk,
 }
 
+/// What a case is drawn from: two numbers into one, each of them scrambled.
+pub(crate) fn rng(seed: u64, number: u64) -> Rng {
+    Rng::new(Rng::new(seed).number() ^ Rng::new(!number).number())
+}
+
 /// A case that is being drawn.
 pub struct Case {
     pub kind: Kind,
@@ -33,8 +38,7 @@ pub struct Case {
 impl Case {
     /// The case of this number.
     pub fn new(seed: u64, number: u64) -> Case {
-        // two numbers into one, each of them scrambled
-        let mut rng = Rng::new(Rng::new(seed).number() ^ Rng::new(!number).number());
+        let mut rng = rng(seed, number);
         match rng.below(1_000) {
             0..=69 => Case::list(rng),
             70..=199 => Case::sound(rng),

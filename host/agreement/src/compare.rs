@@ -118,7 +118,7 @@ fn same(left: &Left, wanted: &Left) -> Result<(), String> {
     Err(differences.join("; "))
 }
 
-fn state_difference(left: &State, wanted: &State) -> String {
+pub(crate) fn state_difference(left: &State, wanted: &State) -> String {
     let mut parts = Vec::new();
     if left.service != wanted.service {
         parts.push(format!("{:?}, not {:?}", left.service, wanted.service));
@@ -137,7 +137,7 @@ fn state_difference(left: &State, wanted: &State) -> String {
     format!("state: {}", parts.join(", "))
 }
 
-fn items_difference<T: PartialEq + std::fmt::Debug>(
+pub(crate) fn items_difference<T: PartialEq + std::fmt::Debug>(
     name: &str,
     left: &Option<Vec<T>>,
     wanted: &Option<Vec<T>>,

@@ -1,7 +1,8 @@
-//! Compares libnidhaaguf.a with the reference, an independent second implementation, call by call.
+//! Compares the library with the reference, an independent second implementation, call by call.
 //!
 //! A case is a first state and row and a list of calls, all drawn from a seed. Every call is made on both with the same
-//! input; answer, state, row and packet must come out the same.
+//! input; answer, state, row and packet must come out the same. `many` has the bursts and serves: the library's on one side,
+//! and on the other the reference's single calls that they stand for.
 
 #![forbid(unsafe_code)]
 
@@ -11,6 +12,7 @@ pub mod choose;
 pub mod compare;
 pub mod edges;
 pub mod lent;
+pub mod many;
 pub mod options;
 pub mod report;
 pub mod run;

@@ -1,5 +1,6 @@
 //! What is printed of a run.
 
+use crate::call::Call;
 use crate::case::Kind;
 use crate::run::{Failure, Met};
 use crate::shorten::{replay, shorten};
@@ -19,8 +20,7 @@ pub fn tables(met: &Met) -> String {
 /// What a run should have met more often.
 pub fn complaints(met: &Met) -> Vec<String> {
     let mut complaints = met.tally.complaints();
-    // an edge is rarer than an answer
-    let least = (met.tally.least() / 20).max(1);
+    let least = met.tally.least_of_edges();
     complaints.extend(met.edges.missed(least));
     let broken = BREAKS.iter().zip(met.broken).filter(|(_, times)| *times < least);
     complaints.extend(broken.map(|(rule, times)| format!("\"{}\" met {times} times", rule.rule)));
@@ -28,22 +28,36 @@ pub fn complaints(met: &Met) -> Vec<String> {
 }
 
 /// A failure, shortened, with the command that replays it.
-pub fn failure(side: &dyn Side, failure: &Failure) -> String {
+pub fn failure(side: &dyn Side, failure: &Failure<Call>) -> String {
+    let Failure { kind, first, calls, .. } = failure;
+    let replayed = |places: &[usize]| replay(side, *kind, first, calls, places);
+    let all = (0..calls.len()).collect();
+    let places = shorten(all, |places| replayed(places).is_some());
+    let lines = places.iter().map(|&place| format!("{place}: {:?}", calls[place])).collect();
+    disagreement(failure, replayed(&places), "case", &places, lines)
+}
+
+/// What is told of a shortened failure: its complaint, where it begins, a line for each call, how to replay it.
+pub(crate) fn disagreement<C>(
+    failure: &Failure<C>,
+    complaint: Option<String>,
+    option: &str,
+    places: &[usize],
+    lines: Vec<String>,
+) -> String {
     let Failure { seed, number, kind, first, calls, .. } = failure;
-    let places = shorten(side, *kind, first, calls, (0..calls.len()).collect());
-    let complaint = replay(side, *kind, first, calls, &places);
     // shortening keeps a failure, so there is one; the first is the fallback
     let complaint = complaint.unwrap_or_else(|| failure.complaint.clone());
     let mut text = format!("THE LIBRARY AND THE REFERENCE DISAGREE: {complaint}\n");
-    text += &format!("case {number} of seed {seed}, {}\n", kind_name(*kind));
+    text += &format!("{option} {number} of seed {seed}, {}\n", kind_name(*kind));
     text += &format!("first state and row: {first:?}");
-    text += &format!("{} of {} calls:\n", places.len(), calls.len());
-    for &place in &places {
-        text += &format!("  {place}: {:?}\n", calls[place]);
+    text += &format!("{} of {} calls:\n", lines.len(), calls.len());
+    for line in lines {
+        text += &format!("  {line}\n");
     }
     let only: Vec<String> = places.iter().map(|place| place.to_string()).collect();
     let only = only.join(",");
-    text + &format!("to replay: agreement --seed {seed} --case {number} --only {only}\n")
+    text + &format!("to replay: agreement --seed {seed} --{option} {number} --only {only}\n")
 }
 
 fn kind_name(kind: Kind) -> String {

@@ -3,7 +3,7 @@
 use crate::call::Call;
 use crate::case::{Case, Kind};
 use crate::compare;
-use crate::edges::{Edges, Moment};
+use crate::edges::{self, Edges, Moment};
 use crate::sides::{Reference, Side};
 use crate::tally::Tally;
 use crate::world::World;
@@ -12,7 +12,7 @@ use nidhaaguf::Refusal;
 use reference::book::Book;
 
 /// What a run has met.
-#[derive(Clone, Debug, Default)]
+#[derive(Clone, Debug)]
 pub struct Met {
     pub cases: u64,
     pub tally: Tally,
@@ -21,19 +21,27 @@ pub struct Met {
     pub broken: [usize; BREAKS.len()],
 }
 
+impl Default for Met {
+    /// Nothing yet.
+    fn default() -> Met {
+        let (tally, broken) = (Tally::default(), [0; BREAKS.len()]);
+        Met { cases: 0, tally, edges: edges::of_calls(), broken }
+    }
+}
+
 /// A case on which the sides don't agree, up to the call where they part.
 #[derive(Debug)]
-pub struct Failure {
+pub struct Failure<C> {
     pub seed: u64,
     pub number: u64,
     pub kind: Kind,
     pub first: World,
-    pub calls: Vec<Call>,
+    pub calls: Vec<C>,
     pub complaint: String,
 }
 
 /// Runs cases from 0 on until so many calls are made.
-pub fn run(side: &dyn Side, seed: u64, calls: usize) -> Result<Met, Box<Failure>> {
+pub fn run(side: &dyn Side, seed: u64, calls: usize) -> Result<Met, Box<Failure<Call>>> {
     let mut met = Met::default();
     while met.tally.calls() < calls {
         run_case(side, seed, met.cases, &mut met)?;
@@ -42,13 +50,13 @@ pub fn run(side: &dyn Side, seed: u64, calls: usize) -> Result<Met, Box<Failure>
     Ok(met)
 }
 
-/// Names the case when one of the sides panics in it.
-struct Naming(u64, u64);
+/// Names the case when one of the sides panics in it: the option that replays it, seed and number.
+pub(crate) struct Naming(pub &'static str, pub u64, pub u64);
 
 impl Drop for Naming {
     fn drop(&mut self) {
         if std::thread::panicking() {
-            eprintln!("a panic in --seed {} --case {}", self.0, self.1);
+            eprintln!("a panic in --seed {} --{} {}", self.1, self.0, self.2);
         }
     }
 }
@@ -59,8 +67,8 @@ pub fn run_case(
     seed: u64,
     number: u64,
     met: &mut Met,
-) -> Result<(), Box<Failure>> {
-    let _naming = Naming(seed, number);
+) -> Result<(), Box<Failure<Call>>> {
+    let _naming = Naming("case", seed, number);
     let mut case = Case::new(seed, number);
     let mut world = case.first.clone();
     let mut book = book_for(case.kind);
@@ -77,7 +85,8 @@ pub fn run_case(
         };
         let told = stepped.told;
         met.tally.add(call, told);
-        met.edges.add(&Moment { before: &world, call, told, left: &stepped.packet });
+        let left = &stepped.packet;
+        met.edges.add(Moment { before: &world, call, told, left }.edges());
         match (case.kind, Refusal::of_number(told.refusal)) {
             (Kind::Broken(which), Some(Refusal::Unsound)) => met.broken[which] += 1,
             _ => {}

@@ -26,26 +26,31 @@ pub fn replay(
     None
 }
 
-/// The places of fewer calls that fail as well: greedily, until none of them can be left out.
-pub fn shorten(
-    side: &dyn Side,
-    kind: Kind,
-    first: &World,
-    calls: &[Call],
-    mut places: Vec<usize>,
-) -> Vec<usize> {
-    loop {
-        let before = places.len();
-        // the last ones first: the calls that fill a table stay longest
-        for at in (0..places.len()).rev() {
-            let mut fewer = places.clone();
-            fewer.remove(at);
-            if replay(side, kind, first, calls, &fewer).is_some() {
-                places = fewer;
-            }
+/// Fewer places that fail as well: greedily, halves of them first, until none can be left out.
+pub fn shorten(mut places: Vec<usize>, fails: impl Fn(&[usize]) -> bool) -> Vec<usize> {
+    let mut step = places.len().div_ceil(2);
+    while step > 0 {
+        let fewer = without_parts(places.clone(), step, &fails);
+        if step > 1 || fewer.len() == places.len() {
+            step /= 2;
         }
-        if places.len() == before {
-            return places;
+        places = fewer;
+    }
+    places
+}
+
+/// Leaves out parts of so many places, the last ones first: the calls that fill a table stay longest.
+fn without_parts(
+    mut places: Vec<usize>,
+    step: usize,
+    fails: impl Fn(&[usize]) -> bool,
+) -> Vec<usize> {
+    for first in (0..places.len()).step_by(step).rev() {
+        let end = (first + step).min(places.len());
+        let fewer = [&places[..first], &places[end..]].concat();
+        if fails(&fewer) {
+            places = fewer;
         }
     }
+    places
 }

@@ -25,12 +25,26 @@ enum Answered {
 }
 
 /// How often each call was answered so.
-#[derive(Clone, Default, Debug)]
+#[derive(Clone, Debug)]
 pub struct Tally {
     cells: [[usize; ANSWERS]; CALLS.len()],
+    /// Whether the rules give that call that answer.
+    is_possible: fn(usize, usize) -> bool,
+}
+
+impl Default for Tally {
+    /// Of single calls.
+    fn default() -> Tally {
+        Tally { cells: Default::default(), is_possible }
+    }
 }
 
 impl Tally {
+    /// Of the tick and the packets of bursts or serves.
+    pub fn of_many() -> Tally {
+        Tally { is_possible: is_possible_of_many, ..Tally::default() }
+    }
+
     pub fn add(&mut self, call: &Call, told: Told) {
         let refused = Refusal::ALL.iter().position(|each| each.number() == told.refusal);
         let answer = match (refused, told.change) {
@@ -50,13 +64,18 @@ impl Tally {
         self.calls().min(FULL_RUN) * 1_000 / FULL_RUN
     }
 
+    /// How often every edge must be met, which is rarer than an answer.
+    pub fn least_of_edges(&self) -> usize {
+        (self.least() / 20).max(1)
+    }
+
     /// Answers that were met too rarely, and those that the rules don't give.
     pub fn complaints(&self) -> Vec<String> {
         let mut complaints = Vec::new();
         for (call, cells) in self.cells.iter().enumerate() {
             for (answer, &times) in cells.iter().enumerate() {
                 let name = || format!("{}: {} met {times} times", CALLS[call], name_of(answer));
-                match is_possible(call, answer) {
+                match (self.is_possible)(call, answer) {
                     true if times < self.least() => complaints.push(name()),
                     false if times > 0 => complaints.push(name()),
                     _ => {}
@@ -98,6 +117,15 @@ fn is_possible(call: usize, place: usize) -> bool {
     }
 }
 
+/// Packets come behind an accepted tick: never 15 or 11.
+fn is_possible_of_many(call: usize, place: usize) -> bool {
+    match answered(place) {
+        _ if call < 3 => false,
+        Answered::Refused(Refusal::Unsound | Refusal::EarlierClock) => call == 3,
+        _ => is_possible(call, place),
+    }
+}
+
 /// "Order: setup 1, 2, 3, 4. Weight and count 15, 5. Tick 15, 11. Packets 15, 6 to 11, then 12 to 14."
 fn refuses(call: usize, refusal: Refusal) -> bool {
     use Refusal::*;
@@ -119,20 +147,38 @@ fn name_of(place: usize) -> String {
     }
 }
 
+impl Tally {
+    /// Whether it is possible, or was met though it isn't.
+    fn is_told(&self, call: usize, answer: usize) -> bool {
+        (self.is_possible)(call, answer) || self.cells[call][answer] > 0
+    }
+
+    /// The calls that have any answer here.
+    fn calls_told(&self) -> impl Iterator<Item = usize> + '_ {
+        let has_answer =
+            |&call: &usize| (0..ANSWERS).any(|answer| (self.is_possible)(call, answer));
+        (0..CALLS.len()).filter(has_answer)
+    }
+}
+
 impl fmt::Display for Tally {
     fn fmt(&self, out: &mut fmt::Formatter<'_>) -> fmt::Result {
         write!(out, "{:12}", "answer")?;
-        for call in CALLS {
-            write!(out, "{call:>10}")?;
+        for call in self.calls_told() {
+            write!(out, "{:>10}", CALLS[call])?;
         }
         writeln!(out, "{:>10}", "all")?;
         for answer in 0..ANSWERS {
+            if !self.calls_told().any(|call| self.is_told(call, answer)) {
+                continue;
+            }
             write!(out, "{:12}", name_of(answer))?;
             let mut all = 0;
-            for (call, cells) in self.cells.iter().enumerate() {
-                all += cells[answer];
-                match is_possible(call, answer) || cells[answer] > 0 {
-                    true => write!(out, "{:>10}", cells[answer])?,
+            for call in self.calls_told() {
+                let times = self.cells[call][answer];
+                all += times;
+                match self.is_told(call, answer) {
+                    true => write!(out, "{times:>10}")?,
                     false => write!(out, "{:>10}", "-")?,
                 }
             }

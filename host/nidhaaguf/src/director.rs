@@ -1,7 +1,12 @@
 //! A director that owns its state and its connection table.
 
-use crate::raw::{self, Answer, State};
-use crate::{Change, Passed, Refusal, Settings};
+use crate::ffi::clear_errno;
+use crate::passed::{packet_verdict, verdict};
+use crate::raw::{self, Answer, Record, State};
+use crate::{Answered, Burst, Counters, End, Served};
+use crate::{Passed, Refusal, Settings};
+use std::io;
+use std::os::fd::AsFd;
 
 /// The most slots that a table may have.
 const MOST_SLOTS: usize = 4_096;
@@ -53,7 +58,7 @@ impl Director {
     /// Refused: [`NoServer`](Refusal::NoServer).
     pub fn count(&self, server: usize) -> Result<u32, Refusal> {
         let answer = raw::count(self.state, &self.row, number_of(server));
-        verdict(&answer).map(|()| answer.number)
+        verdict(answer.refusal).map(|()| answer.number)
     }
 
     /// Moves the clock, in seconds, and removes the connections that are idle then: UDP after 300 s, TCP after 900 s,
@@ -81,14 +86,114 @@ impl Director {
     /// the server told, checksums included; refused, it is as it was.
     pub fn inbound(&mut self, packet: &mut [u8], clock: u32) -> Result<Passed, Refusal> {
         let answer = raw::inbound(self.state, &mut self.row, packet, clock);
-        self.accept(answer).map(passed)
+        self.accept_packet(answer)
     }
 
     /// Takes a packet from a server. Accepted, it is rewritten in place to come from the virtual address and port;
     /// refused, it is as it was. It opens no connection.
     pub fn outbound(&mut self, packet: &mut [u8], clock: u32) -> Result<Passed, Refusal> {
         let answer = raw::outbound(self.state, &mut self.row, packet, clock);
-        self.accept(answer).map(passed)
+        self.accept_packet(answer)
+    }
+
+    /// A [`tick`](Director::tick), then the packets one after another at its clock, each as
+    /// [`inbound`](Director::inbound) or [`outbound`](Director::outbound) takes it, by its destination: inbound, if that
+    /// is the virtual address. The packets are taken out of the burst and told with their answers. It costs far less than
+    /// as many single calls, since the state is judged once.
+    ///
+    /// Refused: [`EarlierClock`](Refusal::EarlierClock); the packets then stay in the burst.
+    ///
+    /// ```
+    /// use nidhaaguf::{Burst, Change, Director, Passed, Protocol, Refusal, Scheduler, Settings};
+    ///
+    /// let settings = Settings::new("192.0.2.10:5432".parse()?, Protocol::Tcp, Scheduler::RoundRobin)
+    ///     .server("10.1.0.5:6432".parse()?, 1);
+    /// let mut director = Director::set_up(&settings, 16)?;
+    /// # let syn = [
+    /// #     0x45, 0, 0, 0x28, 0, 0, 0x40, 0, 0x40, 0x06, 0x6E, 0xC5, 10, 0, 0, 1, 192, 0, 2, 10,
+    /// #     0x9C, 0x40, 0x15, 0x38, 0, 0, 0, 0, 0, 0, 0, 0, 0x50, 0x02, 0, 0, 0x32, 0x5F, 0, 0,
+    /// # ];
+    ///
+    /// let mut burst = Burst::new(64);
+    /// burst.push(&syn)?;
+    /// burst.push(&syn)?;
+    /// burst.push(&syn[..19])?;
+    /// let answers: Vec<_> = director.burst(&mut burst, 1)?.packets().map(|(_, answer)| answer).collect();
+    /// assert_eq!(answers[0], Ok(Passed { server: 0, change: Change::Opened }));
+    /// assert_eq!(answers[1], Ok(Passed { server: 0, change: Change::Kept }));
+    /// assert_eq!(answers[2], Err(Refusal::MalformedHeader));
+    /// # Ok::<(), Box<dyn std::error::Error>>(())
+    /// ```
+    pub fn burst<'a>(&mut self, burst: &'a mut Burst, clock: u32) -> Result<Answered<'a>, Refusal> {
+        let (places, records) = burst.taken();
+        let removed = self.burst_in_place(places, records, clock)?;
+        Ok(burst.answered(removed))
+    }
+
+    /// The same for packets in a ring of the program's own: packet k begins at byte [`PLACE`](raw::PLACE) * k, and
+    /// `records[k]` tells its length and gets its answer. There are as many packets as both whole places and records.
+    /// Tells how many connections the tick removed.
+    pub fn burst_in_place(
+        &mut self,
+        packets: &mut [u8],
+        records: &mut [Record],
+        clock: u32,
+    ) -> Result<u32, Refusal> {
+        let words = raw::words(records);
+        let answer = raw::burst(self.state, &mut self.row, packets, words, clock);
+        self.accept(answer).map(|answer| answer.number)
+    }
+
+    /// A [`tick`](Director::tick), then packets as they come: each is read from `descriptor`, taken as in a
+    /// [`burst`](Director::burst) and, accepted, written back; until a read gives nothing or `most` packets are taken.
+    /// The descriptor gives one packet a read, such as a TUN device or a datagram socket. The call waits where its reads
+    /// do, and its clock stands still meanwhile; a signal ends it, unless it comes just before the read. A packet longer
+    /// than `buffer` is cut, and then refused.
+    ///
+    /// Refused: [`EarlierClock`](Refusal::EarlierClock), and nothing is read.
+    ///
+    /// ```
+    /// use nidhaaguf::{Change, Counters, Director, End, Protocol, Refusal, Scheduler, Settings, Way};
+    /// use std::os::unix::net::UnixDatagram;
+    ///
+    /// let settings = Settings::new("192.0.2.10:5432".parse()?, Protocol::Tcp, Scheduler::RoundRobin)
+    ///     .server("10.1.0.5:6432".parse()?, 1);
+    /// let mut director = Director::set_up(&settings, 16)?;
+    /// # let syn = [
+    /// #     0x45, 0, 0, 0x28, 0, 0, 0x40, 0, 0x40, 0x06, 0x6E, 0xC5, 10, 0, 0, 1, 192, 0, 2, 10,
+    /// #     0x9C, 0x40, 0x15, 0x38, 0, 0, 0, 0, 0, 0, 0, 0, 0x50, 0x02, 0, 0, 0x32, 0x5F, 0, 0,
+    /// # ];
+    /// let (device, other_end) = UnixDatagram::pair()?;
+    /// other_end.send(&syn)?;
+    /// other_end.send(&syn[..19])?;
+    ///
+    /// let mut counters = Counters::new();
+    /// let served = director.serve(&device, &mut [0; 2_048], &mut counters, 1, 2)?;
+    /// assert!(matches!(served.end, End::Most));
+    /// assert_eq!((served.taken, served.unsent), (2, 0));
+    /// assert_eq!(counters.accepted(Way::Inbound, Change::Opened), 1);
+    /// assert_eq!(counters.refused(Way::Inbound, Refusal::MalformedHeader), 1);
+    /// # let mut sent = [0; 2_048];
+    /// # assert_eq!(other_end.recv(&mut sent)?, 40);
+    /// # assert_eq!(sent[16..20], [10, 1, 0, 5]);
+    /// # Ok::<(), Box<dyn std::error::Error>>(())
+    /// ```
+    pub fn serve(
+        &mut self,
+        descriptor: impl AsFd,
+        buffer: &mut [u8],
+        counters: &mut Counters,
+        clock: u32,
+        most: u32,
+    ) -> Result<Served, Refusal> {
+        let (state, row, counters) = (self.state, &mut self.row, &mut counters.0);
+        clear_errno();
+        let served = raw::serve(descriptor.as_fd(), state, row, buffer, counters, clock, most);
+        let end = End::of(served.taken == most, io::Error::last_os_error());
+        self.state = served.state;
+        verdict(served.refusal)?;
+        let raw::Served { removed, taken, unsent, .. } = served;
+        Ok(Served { removed, taken, unsent, end })
     }
 
     /// The latest accepted clock.
@@ -115,29 +220,16 @@ impl Director {
     /// The state comes back from every call, refused ones too.
     fn accept(&mut self, answer: Answer) -> Result<Answer, Refusal> {
         self.state = answer.state;
-        verdict(&answer).map(|()| answer)
+        verdict(answer.refusal).map(|()| answer)
+    }
+
+    fn accept_packet(&mut self, answer: Answer) -> Result<Passed, Refusal> {
+        self.state = answer.state;
+        packet_verdict(answer.refusal, answer.number, answer.change)
     }
 }
 
 /// A number past 32 bits is no server's either.
 fn number_of(server: usize) -> u32 {
     u32::try_from(server).unwrap_or(u32::MAX)
-}
-
-fn verdict(answer: &Answer) -> Result<(), Refusal> {
-    match (answer.refusal, Refusal::of_number(answer.refusal)) {
-        (0, _) => Ok(()),
-        (_, Some(refusal)) => Err(refusal),
-        (number, None) => panic!("the library gave the unknown refusal {number}"),
-    }
-}
-
-fn passed(answer: Answer) -> Passed {
-    let change = match answer.change {
-        1 => Change::Opened,
-        2 => Change::Kept,
-        3 => Change::Ended,
-        number => panic!("the library gave the unknown change {number}"),
-    };
-    Passed { server: answer.number as usize, change }
 }

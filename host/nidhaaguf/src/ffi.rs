@@ -8,8 +8,8 @@ use crate::structs::*;
 use std::os::fd::{AsRawFd, BorrowedFd};
 
 // size_t is usize on the one machine that the library is for
-#[cfg(not(all(target_arch = "x86_64", unix)))]
-compile_error!("the library is for x86-64 with the System V calling convention");
+#[cfg(not(all(target_arch = "x86_64", target_os = "linux")))]
+compile_error!("the library is for x86-64 Linux");
 
 extern "C" {
     fn nidhaaguf_set_up(
@@ -65,6 +65,7 @@ extern "C" {
         clock: u32,
         most: u32,
     ) -> Served;
+    fn __errno_location() -> *mut i32;
 }
 
 /// Sets up a service; `state` is only what a refusal gives back. Refusals 1 to 4.
@@ -151,4 +152,10 @@ pub fn words(records: &mut [Record]) -> &mut [u32] {
     let length = records.len() * WORDS_PER_RECORD;
     // SAFETY: a record is four words without padding (asserted beside it), any of which may have any value.
     unsafe { std::slice::from_raw_parts_mut(records.as_mut_ptr().cast(), length) }
+}
+
+/// Sets errno to 0, so that a call that fails later can be told from one that doesn't.
+pub fn clear_errno() {
+    // SAFETY: the C library's place for this thread's errno, which is always there.
+    unsafe { *__errno_location() = 0 }
 }

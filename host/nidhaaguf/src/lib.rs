@@ -1,7 +1,7 @@
 //! A packet director: it takes IPv4 packets sent to one virtual address and port and gives them to 1 to 64 servers.
 //!
-//! The work is done by libnidhaaguf.a, a library whose rules are proved; this crate is its safe form for Rust. It reads
-//! and writes no network itself: the program hands each packet in as bytes and sends what comes back.
+//! The work is done by a library whose rules are proved; this crate is its safe form for Rust. It opens no network itself:
+//! the program hands packets in as bytes and sends what comes back, or lends a descriptor that they come by.
 //!
 //! A program sets up a [`Director`], then hands it packets with the time in seconds:
 //!
@@ -10,6 +10,8 @@
 //!   A SYN of a client whose last connection both sides have finished is the first of a new one.
 //! - [`outbound`](Director::outbound): a server's packet back. Its source becomes the virtual address and port.
 //! - [`tick`](Director::tick): time passes, and idle connections are removed. Packets do the same.
+//! - [`burst`](Director::burst): a tick and many packets of both ways, far cheaper than one by one.
+//! - [`serve`](Director::serve): the same with packets that are read from a TUN device or a socket and written back to it.
 //! - [`set_weight`](Director::set_weight) and [`count`](Director::count): drain a server by setting its weight to 0, and
 //!   take it away once its count is 0 (see `examples/drain.rs`).
 //!
@@ -50,16 +52,20 @@
 #![deny(unsafe_code)]
 #![warn(missing_debug_implementations)]
 
+mod burst;
 mod director;
 #[allow(unsafe_code)]
 mod ffi;
 mod passed;
 pub mod raw;
 mod refusal;
+mod served;
 mod settings;
 mod structs;
 
+pub use burst::{Answered, Burst};
 pub use director::Director;
 pub use passed::{Change, Passed};
 pub use refusal::Refusal;
+pub use served::{Counters, End, Served, Way};
 pub use settings::{Protocol, Scheduler, Server, Settings};

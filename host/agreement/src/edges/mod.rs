@@ -1,13 +1,15 @@
 //! Which edges a run has met, so that a generator that has lost one is seen.
 
+mod counted;
 mod renewal;
+
+pub use counted::Edges;
 
 use crate::call::{Call, Told};
 use crate::world::World;
 use nidhaaguf::Refusal;
 use reference::connection::idle_limit;
 use reference::data::UDP;
-use std::fmt;
 
 /// A call that was made: what it was handed and what it left.
 pub struct Moment<'a> {
@@ -62,6 +64,11 @@ const EDGES: [Edge; 38] = [
 ];
 
 impl Moment<'_> {
+    /// Which edges it meets.
+    pub fn edges(&self) -> impl Iterator<Item = bool> + '_ {
+        all().map(|(_, is_met)| is_met(self))
+    }
+
     fn passed(&self) -> bool {
         self.told.change != 0
     }
@@ -153,53 +160,12 @@ impl Moment<'_> {
     }
 }
 
-/// All edges, those of renewals last.
+/// All edges of single calls, those of renewals last.
 fn all() -> impl Iterator<Item = &'static Edge> {
     EDGES.iter().chain(&renewal::EDGES)
 }
 
-/// How often each edge was met.
-#[derive(Clone, Debug)]
-pub struct Edges {
-    met: Vec<usize>,
-}
-
-impl Edges {
-    pub fn new() -> Edges {
-        Edges { met: vec![0; all().count()] }
-    }
-
-    pub fn add(&mut self, moment: &Moment) {
-        for (times, (_, is_met)) in self.met.iter_mut().zip(all()) {
-            *times += usize::from(is_met(moment));
-        }
-    }
-
-    /// The edges' names, each with how often it was met.
-    fn times(&self) -> impl Iterator<Item = (&'static str, usize)> + '_ {
-        all().zip(&self.met).map(|((name, _), &times)| (*name, times))
-    }
-
-    /// Edges that were met less than so many times.
-    pub fn missed(&self, least: usize) -> Vec<String> {
-        self.times()
-            .filter(|&(_, times)| times < least)
-            .map(|(name, times)| format!("edge \"{name}\" met {times} times"))
-            .collect()
-    }
-}
-
-impl Default for Edges {
-    fn default() -> Edges {
-        Edges::new()
-    }
-}
-
-impl fmt::Display for Edges {
-    fn fmt(&self, out: &mut fmt::Formatter<'_>) -> fmt::Result {
-        for (name, times) in self.times() {
-            writeln!(out, "{name:32}{times:>10}")?;
-        }
-        Ok(())
-    }
+/// The edges of single calls, none met.
+pub fn of_calls() -> Edges {
+    Edges::new(all().map(|(name, _)| *name))
 }

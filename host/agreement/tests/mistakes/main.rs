@@ -1,5 +1,7 @@
 //! Directors with a mistake: each must be found, its case shortened and replayed.
 
+mod many;
+mod mistaken_many;
 mod packets;
 mod renewal;
 mod state;

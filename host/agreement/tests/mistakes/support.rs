@@ -48,7 +48,9 @@ impl Made<'_> {
 pub fn is_found(side: &dyn Side, most_calls: usize) -> String {
     let failure = run(side, 1, 400_000).expect_err("the mistake was not found");
     let all = (0..failure.calls.len()).collect();
-    let places = shorten(side, failure.kind, &failure.first, &failure.calls, all);
+    let places = shorten(all, |places| {
+        replay(side, failure.kind, &failure.first, &failure.calls, places).is_some()
+    });
     assert!(places.len() <= most_calls, "{}", report::failure(side, &failure));
     let (kind, first, calls) = calls_of(failure.seed, failure.number);
     assert_eq!(calls[..failure.calls.len()], failure.calls[..]);

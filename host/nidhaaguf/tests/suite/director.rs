@@ -1,19 +1,7 @@
 //! The wrapper: what goes in and comes out of the library through it.
 
-use nidhaaguf::{raw, Change, Director, Passed, Protocol, Refusal, Scheduler, Settings};
-
-const SYN: [u8; 40] = [
-    0x45, 0x00, 0x00, 0x28, 0x00, 0x00, 0x40, 0x00, 0x40, 0x06, 0x6E, 0xC5, 10, 0, 0, 1, 192, 0, 2,
-    10, 0x9C, 0x40, 0x15, 0x38, 0, 0, 0, 0, 0, 0, 0, 0, 0x50, 0x02, 0x00, 0x00, 0x32, 0x5F, 0, 0,
-];
-
-fn settings(servers: u16) -> Settings {
-    let service = "192.0.2.10:5432".parse().unwrap();
-    let empty = Settings::new(service, Protocol::Tcp, Scheduler::RoundRobin);
-    (0..servers).fold(empty, |settings, number| {
-        settings.server(format!("10.1.0.5:{}", 6432 + number).parse().unwrap(), 1)
-    })
-}
+use crate::support::{settings, turned, SYN};
+use nidhaaguf::{raw, Change, Director, Passed, Refusal};
 
 #[test]
 fn setup_refusals() {
@@ -46,11 +34,7 @@ fn a_connection_from_its_syn_to_its_reset() {
     assert_eq!((director.clock(), director.count(0)), (7, Ok(1)));
 
     // the same bytes the other way: from the server to the client
-    let mut back = packet;
-    back[12..16].copy_from_slice(&packet[16..20]);
-    back[16..20].copy_from_slice(&packet[12..16]);
-    back[20..22].copy_from_slice(&packet[22..24]);
-    back[22..24].copy_from_slice(&packet[20..22]);
+    let mut back = turned(packet);
     let kept = Passed { server: 0, change: Change::Kept };
     assert_eq!(director.outbound(&mut back, 8), Ok(kept));
     assert_eq!(back[12..16], [192, 0, 2, 10]);

@@ -1,0 +1,13 @@
+//! Bursts and serves: a tick and many packets in one call, compared with the reference's single calls.
+
+pub mod call;
+pub mod compare;
+pub mod draw;
+pub mod edges;
+pub mod left;
+pub mod other_end;
+pub mod report;
+pub mod run;
+pub mod sides;
+pub mod singly;
+pub mod wanted;

@@ -1,0 +1,6 @@
+//! Bursts and serves whose answers are written down here, and the reference's single calls beside them.
+
+mod lent;
+mod lists;
+mod other_ends;
+mod support;
