@@ -15,10 +15,11 @@ quietly() {
     return $result
 }
 
-# The library's archive, proved, and the programs that cargo is asked for. What is up to date is for rt and cargo to decide; the
+# The library's archives, proved, and the programs that cargo is asked for. What is up to date is for rt and cargo to decide; the
 # environment may name another archive and another place for what is built, which would not be these.
 build() { # CARGO'S ARGUMENTS
     quietly rt staticlib nidhaaguf
+    quietly rt staticlib nidhaaguf_serve
     (cd host && quietly env -u NIDHAAGUF_LIB cargo build --offline --target-dir target "$@")
 }
 

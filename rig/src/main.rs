@@ -1,11 +1,14 @@
 //! Runs a drill in the laboratory that `rig/drill` has made.
 
-use rig::drills::{compare, death, drain, impaired, ports};
+use rig::drills::compare::{self, profile, Order};
+use rig::drills::{death, drain, impaired, ports};
 use rig::lab::{fail, Failure, Lab};
 use rig::timeline::Timeline;
 use std::process::ExitCode;
 
-const USAGE: &str = "usage: rig drain [--short] | ports [--short] | impaired [SEED] | death | all | short | compare";
+const USAGE: &str =
+    "usage: rig drain [--short] | ports [--short] | impaired [SEED] | death | all | short |
+    compare [--rounds N] [--beside DIRECTORY] | profile [--beside DIRECTORY]";
 
 /// What becomes of which packet in the drill with bad links, unless another seed is given.
 const SEED: u64 = 1;
@@ -39,7 +42,14 @@ fn run(lab: &Lab, timeline: &Timeline, words: &[&str]) -> Result<(), Failure> {
             in_part(lab, "impaired", |part| impaired::run(part, timeline, seed))
         }
         ["death"] => in_part(lab, "death", |part| death::run(part, timeline)),
-        ["compare"] => in_part(lab, "compare", |part| compare::run(part, timeline)),
+        ["compare", options @ ..] => {
+            let order = Order::read(options)?;
+            in_part(lab, "compare", |part| compare::run(part, timeline, &order))
+        }
+        ["profile", options @ ..] => {
+            let order = Order::read(options)?;
+            in_part(lab, "profile", |part| profile::run(part, timeline, &order))
+        }
         ["all"] => ALL.iter().try_for_each(|drill| run(lab, timeline, &[drill])),
         ["short"] => SHORT.iter().try_for_each(|drill| run(lab, timeline, &[drill, "--short"])),
         _ => fail(USAGE),

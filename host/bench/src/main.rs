@@ -1,32 +1,37 @@
-//! `bench SIDE CALL SLOTS SERVERS REPS`: makes a sound state with all but one slot used, and repeats one call on it.
+//! `bench SIDE CALL SLOTS SERVERS REPS`: makes a sound state over a nearly full table, and repeats one call on it.
 //!
-//! SIDE is library, reference or plain; CALL is kept, opening, renewal or tick. With `--one-port` each client has an address of its
-//! own and all have one port, instead of few addresses with many ports; with `--scheduler=N` the scheduler is N and not 1. Count two
-//! runs with different REPS under callgrind: their difference is the calls alone (the script `bench` at the top of the repository
-//! does that).
-//! With `--time` it prints nanoseconds a call instead.
+//! SIDE is library, reference or plain; CALL is kept, outbound, opening, renewal or tick. Or SIDE is serve or burst: then it is one
+//! call with REPS packets, kept, outbound or opening. With `--one-port` each client has an address of its own and all have one port,
+//! instead of few addresses with many ports; with `--first` the packets are of the client in the first slot, not in the last that is
+//! used; with `--free=N` the last N slots are free and not one; with `--scheduler=N` the scheduler is N and not 1. Count two runs with
+//! different REPS under callgrind: their difference is the calls alone (the script `bench` at the top of the repository does that).
+//! With `--time` it prints nanoseconds a call instead, of the first three sides.
 
+mod many;
 mod plain;
 mod scene;
+mod sides;
 
-use scene::{Call, Clients, Scene};
+use scene::{Call, Clients, Plan, Scene};
 use std::time::Instant;
+
+const USAGE: &str = "usage: bench library|reference|plain kept|outbound|opening|renewal|tick SLOTS SERVERS REPS [FLAG..]
+       bench serve|burst kept|outbound|opening SLOTS SERVERS PACKETS [FLAG..]
+flags: --time --one-port --first --free=N --scheduler=N";
 
 fn main() {
     let words: Vec<String> = std::env::args().skip(1).collect();
-    let given = |flag: &str| words.iter().any(|word| word == flag);
-    let timed = given("--time");
-    let clients = if given("--one-port") { Clients::OnePort } else { Clients::FewAddresses };
-    let scheduler = words.iter().find_map(|word| word.strip_prefix("--scheduler=")).unwrap_or("1");
-    let scheduler = scheduler.parse().expect("a scheduler's number");
-    let words: Vec<&str> =
-        words.iter().map(String::as_str).filter(|word| !word.starts_with("--")).collect();
+    let (flags, words): (Vec<&str>, Vec<&str>) =
+        words.iter().map(String::as_str).partition(|word| word.starts_with("--"));
     let [side, call, slots, servers, reps] = words[..] else { usage() };
-    let number = |text: &str| text.parse::<usize>().expect("a number");
-    let scene = Scene::new(number(slots), number(servers), clients, scheduler);
-    let reps = number(reps);
+    let call = Call::named(call).unwrap_or_else(|| usage());
+    let scene = Scene::new(call, plan(number(slots), number(servers), &flags));
+    let (reps, timed) = (number(reps), flags.contains(&"--time"));
+    if timed && ["serve", "burst"].contains(&side) {
+        usage();
+    }
     let begin = Instant::now();
-    let told = run(&scene, side, call, reps);
+    let told = run(&scene, side, reps);
     let each = begin.elapsed().as_nanos() as f64 / reps.max(1) as f64;
     match timed {
         true => println!("{each:.0}"),
@@ -34,25 +39,44 @@ fn main() {
     }
 }
 
+fn number(text: &str) -> usize {
+    text.parse().unwrap_or_else(|_| usage())
+}
+
+fn plan(slots: usize, servers: usize, flags: &[&str]) -> Plan {
+    let value = |flag: &str| flags.iter().find_map(|word| word.strip_prefix(flag)).map(number);
+    let given = |flag: &str| flags.contains(&flag);
+    Plan {
+        slots,
+        servers,
+        free: value("--free=").unwrap_or(1),
+        clients: if given("--one-port") { Clients::OnePort } else { Clients::FewAddresses },
+        first: given("--first"),
+        scheduler: value("--scheduler=").unwrap_or(1) as u8,
+    }
+}
+
 fn usage() -> ! {
-    eprintln!("usage: bench library|reference|plain kept|opening|renewal|tick SLOTS SERVERS REPS [--time] [--one-port] [--scheduler=N]");
+    eprintln!("{USAGE}");
     std::process::exit(2);
 }
 
-/// The call, repeated on the same state; what it answered is printed, so that nothing is left out as unused.
-fn run(scene: &Scene, side: &str, call: &str, reps: usize) -> u64 {
-    let one: fn(&mut Scene, Call) -> u64 = match side {
-        "library" => scene::library,
-        "reference" => scene::reference,
-        "plain" => scene::plain,
+/// The call, repeated on the same state, or one call with so many packets; what it answered is printed, so that nothing is left out
+/// as unused.
+fn run(scene: &Scene, side: &str, reps: usize) -> u64 {
+    let one: fn(&mut Scene) -> u64 = match side {
+        "library" => sides::library,
+        "reference" => sides::reference,
+        "plain" if scene.call != Call::Outbound => sides::plain,
+        "serve" if scene.call.is_of_many() => return many::served(&mut scene.clone(), reps),
+        "burst" if scene.call.is_of_many() => return many::burst(&mut scene.clone(), reps),
         _ => usage(),
     };
-    let call = Call::named(call).unwrap_or_else(|| usage());
     let mut scratch = scene.clone();
     let mut told = 0;
     for _ in 0..reps {
         scratch.again(scene);
-        told += one(&mut scratch, call);
+        told += one(&mut scratch);
     }
     told
 }

@@ -1,18 +1,18 @@
-//! A sound state over a nearly full table, and one call on it by each side.
+//! What a call is measured on: a sound state over a nearly full table, and packets.
 
-use crate::plain;
 use nidhaaguf::raw;
 use reference::packets;
 
-const VIRTUAL: u32 = 0xC000020A;
-const CLOCK: u32 = 1000;
+const SERVICE: (u32, u16) = (0xC000020A, 5432);
+pub const CLOCK: u32 = 1000;
 /// A client that has no connection.
-const NEW: (u32, u16) = (0x0B000001, 40000);
+pub const NEW: (u32, u16) = (0x0B000001, 40000);
 
-/// What is measured.
+/// What is measured: a client's packet of a connection that is there, its server's, a packet that opens, one that renews, a tick.
 #[derive(Clone, Copy, PartialEq)]
 pub enum Call {
     Kept,
+    Outbound,
     Opening,
     Renewal,
     Tick,
@@ -22,59 +22,73 @@ impl Call {
     pub fn named(name: &str) -> Option<Call> {
         match name {
             "kept" => Some(Call::Kept),
+            "outbound" => Some(Call::Outbound),
             "opening" => Some(Call::Opening),
             "renewal" => Some(Call::Renewal),
             "tick" => Some(Call::Tick),
             _ => None,
         }
     }
+
+    /// Whether one call can take many of it.
+    pub fn is_of_many(self) -> bool {
+        matches!(self, Call::Kept | Call::Outbound | Call::Opening)
+    }
+}
+
+/// How a scene is made.
+#[derive(Clone, Copy)]
+pub struct Plan {
+    pub slots: usize,
+    pub servers: usize,
+    /// Slots at the end that are free; of the others at least one is used.
+    pub free: usize,
+    pub clients: Clients,
+    /// Whether the packets are of the client in the first slot, and not of the one in the last that is used.
+    pub first: bool,
+    pub scheduler: u8,
 }
 
 /// State, row and packet, in the library's layout and in the second implementation's.
 #[derive(Clone)]
 pub struct Scene {
-    state: raw::State,
-    twin: reference::State,
-    row: Vec<u32>,
-    packet: Vec<u8>,
-    kept: Vec<u8>,
-    opening: Vec<u8>,
-    renewal: Vec<u8>,
+    pub call: Call,
+    pub plan: Plan,
+    pub state: raw::State,
+    pub twin: reference::State,
+    pub row: Vec<u32>,
+    pub packet: Vec<u8>,
+    /// What the packet was.
+    fresh: Vec<u8>,
 }
 
 impl Scene {
-    /// All slots used but the last, by clients of their own; of one slot, it is used. The walk is at the scheduler's start.
-    pub fn new(slots: usize, servers: usize, clients: Clients, scheduler: u8) -> Scene {
+    /// The used slots are by clients of their own. The walk is at the scheduler's start.
+    pub fn new(call: Call, plan: Plan) -> Scene {
+        let servers = plan.servers;
         let service = raw::Service {
-            address: VIRTUAL,
-            port: 5432,
+            address: SERVICE.0,
+            port: SERVICE.1,
             protocol: 6,
-            scheduler,
+            scheduler: plan.scheduler,
             servers: servers as u32,
         };
-        let place = walk_start(scheduler, servers);
+        let place = walk_start(plan.scheduler, servers);
         let mut state = raw::State { service, clock: CLOCK, place, ..raw::State::default() };
         for (number, server) in state.servers[..servers].iter_mut().enumerate() {
-            *server = raw::Server {
-                address: 0x0A010001 + number as u32,
-                port: 6432,
-                weight: 1,
-                count: 0,
-            };
+            let (address, port) = server_end(number);
+            *server = raw::Server { address, port, weight: 1, count: 0 };
         }
-        let mut row = vec![0; slots * raw::WORDS_PER_SLOT];
-        let used = (slots - 1).max(1);
-        for slot in 0..used {
+        let mut row = vec![0; plan.slots * raw::WORDS_PER_SLOT];
+        for slot in 0..plan.used() {
             let server = slot % servers;
-            let (address, port) = clients.client(slot);
+            let (address, port) = plan.clients.client(slot);
             let words = [1, address, port.into(), server as u32, CLOCK];
             row[5 * slot..5 * slot + 5].copy_from_slice(&words);
             state.servers[server].count += 1;
         }
-        let packet_of = |from, flags| packets::tcp(from, (VIRTUAL, 5432), flags).build();
-        let last = clients.client(used - 1);
-        let (kept, opening, renewal) = (packet_of(last, 16), packet_of(NEW, 2), packet_of(last, 2));
-        Scene { twin: twin_of(&state), state, row, packet: kept.clone(), kept, opening, renewal }
+        let fresh = packet_of(call, &plan, 0);
+        Scene { call, plan, twin: twin_of(&state), state, row, packet: fresh.clone(), fresh }
     }
 
     /// As it was, for another call.
@@ -83,26 +97,56 @@ impl Scene {
         self.twin.clock = first.twin.clock;
     }
 
-    fn set_packet(&mut self, call: Call) {
-        let from = match call {
-            Call::Kept | Call::Tick => &self.kept,
-            Call::Opening => &self.opening,
-            Call::Renewal => &self.renewal,
-        };
-        self.packet.copy_from_slice(from);
-        if call == Call::Renewal {
+    /// Packet `number` of a call that takes many.
+    pub fn fresh_packet(&self, number: usize) -> Vec<u8> {
+        packet_of(self.call, &self.plan, number)
+    }
+
+    /// The packet as it came.
+    pub fn set_packet(&mut self) {
+        self.packet.copy_from_slice(&self.fresh);
+        if self.call == Call::Renewal {
             self.finish_last();
         }
     }
 
     /// The last connection is one that both have finished. (A renewal left another there, for a state that is thrown away.)
     fn finish_last(&mut self) {
-        let slots = self.row.len() / raw::WORDS_PER_SLOT;
-        let used = (slots - 1).max(1);
-        let at = raw::WORDS_PER_SLOT * (used - 1);
+        let at = raw::WORDS_PER_SLOT * (self.plan.used() - 1);
         self.row[at] = 4;
-        self.row[at + 3] = (used as u32 - 1) % self.state.service.servers;
+        self.row[at + 3] = (self.plan.used() as u32 - 1) % self.state.service.servers;
     }
+}
+
+impl Plan {
+    pub fn used(&self) -> usize {
+        self.slots.saturating_sub(self.free).max(1)
+    }
+
+    /// Whose packets are measured.
+    fn slot(&self) -> usize {
+        if self.first {
+            0
+        } else {
+            self.used() - 1
+        }
+    }
+}
+
+/// Packet `number` of those that a call is measured with; each that opens is of a client of its own.
+fn packet_of(call: Call, plan: &Plan, number: usize) -> Vec<u8> {
+    let client = plan.clients.client(plan.slot());
+    let packet = match call {
+        Call::Kept | Call::Tick => packets::tcp(client, SERVICE, 16),
+        Call::Outbound => packets::tcp(server_end(plan.slot() % plan.servers), client, 16),
+        Call::Opening => packets::tcp((NEW.0, NEW.1 + number as u16), SERVICE, 2),
+        Call::Renewal => packets::tcp(client, SERVICE, 2),
+    };
+    packet.build()
+}
+
+fn server_end(number: usize) -> (u32, u16) {
+    (0x0A010001 + number as u32, 6432)
 }
 
 /// Where a scheduler's walk starts, as the state has it: 0 before the first server, k + 1 at server k.
@@ -153,58 +197,4 @@ fn twin_of(state: &raw::State) -> reference::State {
     twin.walk = reference::Walk { place: state.place as i64 - 1, level: state.level };
     twin.clock = state.clock;
     twin
-}
-
-/// The state of an opening is thrown away, and its slot freed, so that each call meets the same table.
-fn free_last(row: &mut [u32]) {
-    let last = row.len() - raw::WORDS_PER_SLOT;
-    row[last..].fill(0);
-}
-
-pub fn library(scene: &mut Scene, call: Call) -> u64 {
-    scene.set_packet(call);
-    let answer = match call {
-        Call::Tick => raw::tick(scene.state, &mut scene.row, CLOCK),
-        _ => raw::inbound(scene.state, &mut scene.row, &mut scene.packet, CLOCK),
-    };
-    if call == Call::Opening && answer.refusal == 0 {
-        free_last(&mut scene.row);
-    }
-    u64::from(answer.refusal) * 100 + u64::from(answer.change)
-}
-
-pub fn reference(scene: &mut Scene, call: Call) -> u64 {
-    scene.set_packet(call);
-    let mut state = scene.twin;
-    let answer = match call {
-        Call::Tick => reference::tick(&mut state, &mut scene.row, CLOCK),
-        _ => reference::inbound(&mut state, &mut scene.row, &mut scene.packet, CLOCK),
-    };
-    if call == Call::Opening && matches!(answer, reference::Answer::Passed(..)) {
-        free_last(&mut scene.row);
-    }
-    match answer {
-        reference::Answer::Refused(number) => u64::from(number) * 100,
-        reference::Answer::Passed(_, reference::Change::Opened) => 1,
-        reference::Answer::Passed(..) => 2,
-        _ => 0,
-    }
-}
-
-pub fn plain(scene: &mut Scene, call: Call) -> u64 {
-    scene.set_packet(call);
-    let mut servers = scene.twin.servers;
-    let service = scene.twin.service;
-    let n = service.servers as usize;
-    let sound = plain::is_sound(&servers, n, &scene.row, CLOCK);
-    let removed = plain::expire(&mut scene.row, &mut servers, CLOCK);
-    if call == Call::Tick {
-        return u64::from(sound) * 1000 + u64::from(removed);
-    }
-    let wanted = if call == Call::Opening { NEW } else { plain::source(&scene.packet) };
-    let found = plain::find(&scene.row, wanted).or_else(|| plain::find_free(&scene.row));
-    let Some(slot) = found else { return 1300 };
-    let server = servers[scene.row[5 * slot + 3] as usize % n];
-    plain::redirect(&mut scene.packet, server.address, server.port);
-    u64::from(sound) + slot as u64 + u64::from(scene.packet[16])
 }

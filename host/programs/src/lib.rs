@@ -31,6 +31,8 @@ pub const TCPDUMP: Program = Program::named("tcpdump");
 pub const NFT: Program = Program::named("nft");
 /// HAProxy.
 pub const HAPROXY: Program = Program::named("haproxy");
+/// Samples of what a program does.
+pub const PERF: Program = Program::named("perf");
 /// PostgreSQL: makes a data directory.
 pub const INITDB: Program = Program::named("initdb");
 /// PostgreSQL: starts and stops a server.
@@ -45,6 +47,12 @@ pub const NIDHAAGUFD: Program = Program::named("nidhaagufd");
 pub const NIDHAAGUFCTL: Program = Program::named("nidhaagufctl");
 /// The relay that impairs a link.
 pub const IMPAIR: Program = Program::named("impair");
+/// Sends packets on by fixed addresses.
+pub const COPIER: Program = Program::named("copier");
+/// Fills the director's table with clients that don't exist.
+pub const FILL: Program = Program::named("fill");
+/// Waits.
+pub const SLEEP: Program = Program::named("sleep");
 
 impl Program {
     /// The program of that name, which the table must have.

@@ -4,10 +4,11 @@ use crate::lab::network::{balanced, DEVICE, SERVER_PORT, VIRTUAL, VIRTUAL_PORT};
 use crate::lab::status::Status;
 use crate::lab::{ensure, fail, output, Failure, Lab, Running, SIGTERM};
 use programs::{NIDHAAGUFCTL, NIDHAAGUFD};
+use std::ffi::OsString;
 use std::fmt::Write;
 use std::fs;
 use std::io::{BufRead, BufReader};
-use std::path::PathBuf;
+use std::path::{Path, PathBuf};
 use std::process::Stdio;
 use std::sync::mpsc;
 use std::time::Duration;
@@ -26,12 +27,14 @@ pub struct Options {
     pub weights: Vec<u16>,
     /// How many times as fast as real time its clock runs.
     pub clock_speed: u32,
+    /// The folder of another build of it, in place of the one here.
+    pub build: Option<PathBuf>,
 }
 
 impl Default for Options {
     fn default() -> Options {
         let scheduler = "least-connection";
-        Options { scheduler, slots: 4096, weights: vec![1, 1, 1], clock_speed: 1 }
+        Options { scheduler, slots: 4096, weights: vec![1, 1, 1], clock_speed: 1, build: None }
     }
 }
 
@@ -48,6 +51,9 @@ impl Director {
         let (file, socket) = (lab.run.join("director.conf"), lab.run.join("director.sock"));
         fs::write(&file, configuration(options, &socket.display().to_string()))?;
         let mut command = lab.command("director", NIDHAAGUFD);
+        if let Some(folder) = &options.build {
+            command.env("PATH", path_beginning_with(folder)?);
+        }
         command
             .arg("--config")
             .arg(&file)
@@ -116,6 +122,16 @@ impl Director {
     }
 }
 
+/// The path on which that folder comes first. Its program must be there: the next folder's would be taken without a word.
+fn path_beginning_with(folder: &Path) -> Result<OsString, Failure> {
+    let program = folder.join(NIDHAAGUFD.name());
+    ensure(program.is_file(), format!("there is no {}", program.display()))?;
+    let mut path = folder.as_os_str().to_owned();
+    path.push(":");
+    path.push(std::env::var_os("PATH").unwrap_or_default());
+    Ok(path)
+}
+
 fn configuration(options: &Options, socket: &str) -> String {
     let Options { scheduler, slots, weights, .. } = options;
     let mut text = format!(
@@ -126,4 +142,15 @@ fn configuration(options: &Options, socket: &str) -> String {
             .expect("a string grows");
     }
     text
+}
+
+#[cfg(test)]
+mod tests {
+    use super::*;
+
+    #[test]
+    fn another_build_must_be_there() {
+        let missing = path_beginning_with(Path::new("/nowhere"));
+        assert_eq!(missing, fail("there is no /nowhere/nidhaagufd"));
+    }
 }

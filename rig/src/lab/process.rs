@@ -1,6 +1,8 @@
 //! Programs that run: to their end, or beside the drill.
 
 use super::failure::{ensure, wait_for, Failure};
+use std::fs::{self, File};
+use std::path::Path;
 use std::process::{Child, Command, ExitStatus};
 use std::time::Duration;
 
@@ -12,6 +14,9 @@ extern "C" {
 pub const SIGTERM: i32 = 15;
 /// The end of pgbench's time, wherever its clock stands.
 pub const SIGALRM: i32 = 14;
+
+/// How long a program may take to get ready.
+const PATIENCE: Duration = Duration::from_secs(20);
 
 /// Runs a command to its end and gives its standard output; a bad exit fails with its standard error.
 pub fn output(command: &mut Command) -> Result<String, Failure> {
@@ -42,6 +47,17 @@ impl Running {
         let shown = shown(command);
         let child = command.spawn().map_err(|error| Failure(format!("{shown}: {error}")))?;
         Ok(Running { child, shown })
+    }
+
+    /// Starts a command whose standard output goes to that file, and waits until it says there `ready: ` first of all.
+    pub fn start_ready(command: &mut Command, said: &Path) -> Result<Running, Failure> {
+        let mut running = Running::start(command.stdout(File::create(said)?))?;
+        let shown = running.shown.clone();
+        wait_for(&format!("{shown} gets ready"), PATIENCE, || {
+            ensure(running.is_alive()?, format!("{shown} ended"))?;
+            Ok(fs::read_to_string(said)?.starts_with("ready: ").then_some(()))
+        })?;
+        Ok(running)
     }
 
     /// Sends the process a signal.

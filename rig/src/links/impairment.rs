@@ -5,12 +5,11 @@
 //! director goes to the relay's device. What comes from the relay goes on as it would have gone without it.
 
 use crate::lab::network::{balanced, server, CLIENT, DEVICE, VIRTUAL};
-use crate::lab::{ensure, wait_for, Failure, Lab, Running, SIGTERM};
+use crate::lab::{ensure, Failure, Lab, Running, SIGTERM};
 use crate::links::relay::{Counts, Rates};
 use programs::{IMPAIR, IP, NFT};
 use std::fs;
 use std::path::PathBuf;
-use std::process::Stdio;
 use std::time::Duration;
 
 /// The relay's device in the director's namespace.
@@ -18,7 +17,7 @@ const RELAY: &str = "imp0";
 /// The table of the route to the relay, and of the one from there to the director.
 const TO_RELAY: &str = "200";
 const TO_DIRECTOR: &str = "201";
-/// How long the relay may take to start or to end.
+/// How long the relay may take to end.
 const PATIENCE: Duration = Duration::from_secs(20);
 /// The four ways of a packet, as the counters are called.
 const LEGS: [&str; 4] =
@@ -69,12 +68,7 @@ impl Impairment {
         for (flag, number) in numbers {
             command.args([flag, &number.to_string()]);
         }
-        command.stdout(fs::File::create(&said)?).stderr(Stdio::inherit());
-        let mut running = Running::start(&mut command)?;
-        wait_for("the relay is ready", PATIENCE, || {
-            ensure(running.is_alive()?, "the relay ended")?;
-            Ok(fs::read_to_string(&said)?.starts_with("ready: ").then_some(()))
-        })?;
+        let running = Running::start_ready(&mut command, &said)?;
         let filters = lab.run.join("impairment.nft");
         fs::write(&filters, filter_rules(plan))?;
         lab.output("director", NFT, &["-f", &filters.display().to_string()])?;

@@ -1,208 +1,108 @@
 //! Throughput beside what a user would pick instead: pgbench directly, through the kernel's address translation, through HAProxy
-//! and through the director, over the same links and replicas, in turn.
+//! and through the director, over the same links and replicas, in turn; beside another build of the director, and beside a program
+//! that does nothing but send packets on.
 
+mod fill;
 mod haproxy;
+mod load;
 mod nat;
+mod numbers;
+pub mod profile;
+mod stacks;
+mod table;
+mod ways;
 
 use crate::books::FINISHED;
-use crate::lab::director::{Director, Options};
-use crate::lab::network::{self, direct, SERVER_PORT, VIRTUAL, VIRTUAL_PORT};
+use crate::lab::network;
 use crate::lab::postgres::Postgres;
-use crate::lab::{ensure, output, Failure, Lab, REPLICAS};
-use crate::load::pgbench::report;
+use crate::lab::{fail, Failure, Lab, REPLICAS};
 use crate::timeline::Timeline;
-use haproxy::Haproxy;
-use nat::Nat;
-use programs::{IP, PGBENCH};
-use std::fs;
-use std::time::Instant;
+use load::{drive, Kind, CONNECTIONS, EIGHT_CLIENTS, LARGE_ANSWERS, ONE_CLIENT};
+use std::path::PathBuf;
+use ways::{FAST, FASTER, SLOTS};
 
-/// Every way is measured so often; the middle one of the results counts.
-const ROUNDS: usize = 3;
+/// Every way is measured so often, unless another number is given.
+const ROUNDS: usize = 7;
 /// Seconds for one measurement.
-const SECONDS: &str = "2";
-/// Clock ticks in a second, in which the kernel tells a process's time.
-const TICKS: f64 = 100.0;
+const SECONDS: u32 = 2;
 
-/// A way from the client to the replicas.
-#[derive(Clone, Copy, PartialEq, Eq)]
-enum Way {
-    Direct,
-    Nat,
-    Haproxy,
-    /// The director, with so many slots.
-    Director(usize),
+const KINDS: [Kind; 4] = [ONE_CLIENT, EIGHT_CLIENTS, LARGE_ANSWERS, CONNECTIONS];
+
+/// What is to be compared.
+#[derive(Debug, PartialEq, Eq)]
+pub struct Order {
+    rounds: usize,
+    /// The folder of another build of nidhaagufd.
+    beside: Option<PathBuf>,
 }
 
-/// The most slots that a director can have, and few.
-const SLOTS: usize = 4096;
-const FEW: usize = 256;
-/// How fast the director's clock runs with these where connections come and go all the time.
-const FAST: u32 = 120;
-const FASTER: u32 = 600;
-
-const WAYS: [Way; 5] =
-    [Way::Direct, Way::Nat, Way::Haproxy, Way::Director(SLOTS), Way::Director(FEW)];
-
-/// What pgbench is asked to do.
-#[derive(Clone, Copy)]
-struct Kind {
-    title: &'static str,
-    flags: &'static [&'static str],
-    reconnect: bool,
-}
-
-const KINDS: [Kind; 3] = [
-    Kind { title: "1 client", flags: &["-M", "prepared", "-c", "1"], reconnect: false },
-    Kind { title: "8 clients", flags: &["-M", "prepared", "-c", "8", "-j", "2"], reconnect: false },
-    Kind { title: "connections", flags: &["-C", "-c", "8", "-j", "2"], reconnect: true },
-];
-
-/// One measurement: transactions a second, and the share of one processor that the program in the middle took.
-#[derive(Clone, Copy)]
-struct Measured {
-    rate: f64,
-    share: Option<f64>,
-}
-
-/// Measures all ways, and prints them as a table.
-pub fn run(lab: &Lab, timeline: &Timeline) -> Result<(), Failure> {
-    timeline.title("Throughput: pgbench, `select 1`");
-    network::make(lab, REPLICAS)?;
-    let _replicas = Postgres::start_all(lab, REPLICAS)?;
-    fs::write(lab.run.join("one.sql"), "select 1;\n")?;
-    timeline.tell(format!("{REPLICAS} replicas run; {ROUNDS} rounds of {SECONDS} s for each way and kind, in changing order"));
-    let mut results = vec![vec![Vec::new(); KINDS.len()]; WAYS.len()];
-    for round in 0..ROUNDS {
-        for (number, kind) in KINDS.iter().enumerate() {
-            for turn in 0..WAYS.len() {
-                // Each round begins with another way: none is always the first or always the last.
-                let way = (turn + 2 * round) % WAYS.len();
-                results[way][number].push(measure(lab, WAYS[way], kind, round)?);
+impl Order {
+    /// Reads the options, each with its value.
+    pub fn read(options: &[&str]) -> Result<Order, Failure> {
+        let mut order = Order { rounds: ROUNDS, beside: None };
+        for option in options.chunks(2) {
+            match (option, option.get(1).and_then(|value| value.parse::<usize>().ok())) {
+                (["--rounds", _], Some(rounds @ 1..)) => order.rounds = rounds,
+                (["--beside", folder], _) => order.beside = Some(folder.into()),
+                _ => return fail(format!("this is no option: {}", option.join(" "))),
             }
         }
-        timeline.tell(format!("round {} of {ROUNDS} is done", round + 1));
+        Ok(order)
     }
-    print_table(&results);
+}
+
+/// Measures all ways, and prints them as tables.
+pub fn run(lab: &Lab, timeline: &Timeline, order: &Order) -> Result<(), Failure> {
+    timeline.title("Throughput: pgbench");
+    network::make(lab, REPLICAS)?;
+    let _replicas = Postgres::start_all(lab, REPLICAS)?;
+    let (ways, rounds) = (ways::all(order.beside.as_deref()), order.rounds);
+    timeline.tell(format!(
+        "{REPLICAS} replicas run; {rounds} rounds of {SECONDS} s for each way and kind, in changing order"
+    ));
+    let mut results = vec![vec![Vec::new(); KINDS.len()]; ways.len()];
+    for turn in turns(rounds, ways.len()) {
+        let (way, kind) = (&ways[turn.way], &KINDS[turn.kind]);
+        let standing = way.start(lab, kind, turn.round)?;
+        results[turn.way][turn.kind].push(drive(lab, &standing, kind, SECONDS)?);
+        standing.stop()?;
+        if turn.is_last {
+            timeline.tell(format!("round {} of {rounds} is done", turn.round + 1));
+        }
+    }
+    table::print_rates(&ways, &KINDS, &results);
+    table::print_beside(&ways, &KINDS, &results);
+    print_notes(rounds);
     Ok(())
 }
 
-/// Sets the way up, lets pgbench run, and takes the way down again: nothing of another way is there meanwhile.
-fn measure(lab: &Lab, way: Way, kind: &Kind, round: usize) -> Result<Measured, Failure> {
-    match way {
-        Way::Direct => drive(lab, &direct(round % REPLICAS), SERVER_PORT, kind, None),
-        Way::Nat => {
-            let _nat = Nat::start(lab, REPLICAS)?;
-            drive(lab, nat::ADDRESS, VIRTUAL_PORT, kind, None)
-        }
-        Way::Haproxy => {
-            let _haproxy = Haproxy::start(lab, REPLICAS)?;
-            drive(lab, haproxy::ADDRESS, VIRTUAL_PORT, kind, Some("haproxy"))
-        }
-        Way::Director(slots) => {
-            let director = start_director(lab, slots, kind)?;
-            let measured = drive(lab, VIRTUAL, VIRTUAL_PORT, kind, Some("nidhaagufd"))?;
-            director.stop()?;
-            Ok(measured)
-        }
-    }
+/// One measurement of one round.
+#[derive(Clone, Copy, Debug, PartialEq, Eq)]
+struct Turn {
+    round: usize,
+    kind: usize,
+    way: usize,
+    is_last: bool,
 }
 
-/// Lets pgbench run, and looks what the program in the middle took meanwhile.
-fn drive(
-    lab: &Lab,
-    address: &str,
-    port: &str,
-    kind: &Kind,
-    program: Option<&str>,
-) -> Result<Measured, Failure> {
-    let time = || program.map(|program| processor_time(lab, program)).transpose();
-    let (begin, before) = (Instant::now(), time()?);
-    let rate = pgbench(lab, address, port, kind)?;
-    let seconds = begin.elapsed().as_secs_f64();
-    let share = time()?.zip(before).map(|(after, before)| (after - before) / seconds);
-    Ok(Measured { rate, share })
-}
-
-/// The director at its true clock. For new connections all the time the clock has to run faster: each finished one keeps its slot
-/// for 120 s, and the table would be full after a few seconds.
-fn start_director(lab: &Lab, slots: usize, kind: &Kind) -> Result<Director, Failure> {
-    let clock_speed = match (kind.reconnect, slots) {
-        (false, _) => 1,
-        (true, SLOTS) => FAST,
-        (true, _) => FASTER,
+/// All measurements: in each round every kind, and for each kind all ways one right after another. Each round begins with another
+/// way: none is always the first or always the last.
+fn turns(rounds: usize, ways: usize) -> Vec<Turn> {
+    let each = KINDS.len() * ways;
+    let turn = |number: usize| {
+        let (round, within) = (number / each, number % each);
+        // the ways are 7 or 10, which have no divisor with 3 in common
+        let way = (within + 3 * round) % ways;
+        Turn { round, kind: within / ways, way, is_last: within + 1 == each }
     };
-    let director = Director::start(lab, &Options { slots, clock_speed, ..Options::default() })?;
-    network::attach(lab, REPLICAS)?;
-    Ok(director)
+    (0..rounds * each).map(turn).collect()
 }
 
-/// Runs pgbench; tells transactions a second. Any failure of a transaction or connection fails.
-fn pgbench(lab: &Lab, address: &str, port: &str, kind: &Kind) -> Result<f64, Failure> {
-    let mut command = lab.command("client", PGBENCH);
-    command.args(["-n", "-T", SECONDS, "-f"]).arg(lab.run.join("one.sql")).args(kind.flags);
-    command.args(["-h", address, "-p", port, "-U", "postgres", "postgres"]);
-    let said = output(&mut command)?;
-    let report = report(&said).ok_or(Failure(format!("pgbench said: {said}")))?;
-    ensure(report.failed == 0 && report.transactions > 0, format!("pgbench had failures: {said}"))?;
-    Ok(report.rate)
-}
-
-/// The processor time that the program of that name in the director's namespace has taken so far, in seconds.
-fn processor_time(lab: &Lab, program: &str) -> Result<f64, Failure> {
-    let processes = output(IP.command().args(["netns", "pids", &lab.namespace("director")]))?;
-    // A process may have ended meanwhile: it then has no such file.
-    let stats = processes
-        .lines()
-        .filter_map(|process| fs::read_to_string(format!("/proc/{process}/stat")).ok());
-    let ticks: Vec<u64> = stats.filter_map(|stat| ticks_of(program, &stat)).collect();
-    ensure(!ticks.is_empty(), format!("{program} doesn't run"))?;
-    Ok(ticks.iter().sum::<u64>() as f64 / TICKS)
-}
-
-/// User and system time in a process's `stat`, if it is that program's: the 12th and 13th words after the name in brackets.
-fn ticks_of(program: &str, stat: &str) -> Option<u64> {
-    let (name, rest) = stat.rsplit_once(')')?;
-    let mut words =
-        name.ends_with(&format!("({program}")).then(|| rest.split_whitespace().skip(11))?;
-    Some(words.next()?.parse::<u64>().ok()? + words.next()?.parse::<u64>().ok()?)
-}
-
-fn name(way: Way) -> String {
-    match way {
-        Way::Direct => "directly".into(),
-        Way::Nat => "kernel NAT (nftables)".into(),
-        Way::Haproxy => "HAProxy, TCP mode".into(),
-        Way::Director(slots) => format!("nidhaagufd, {slots} slots"),
-    }
-}
-
-/// The middle one by rate.
-fn median(measured: &[Measured]) -> Measured {
-    let mut sorted = measured.to_vec();
-    sorted.sort_by(|a, b| a.rate.total_cmp(&b.rate));
-    sorted[sorted.len() / 2]
-}
-
-/// Prints for each way and kind the rate, its ratio to the direct way's, and the processor's share of the program in the middle.
-fn print_table(results: &[Vec<Vec<Measured>>]) {
+fn print_notes(rounds: usize) {
+    println!("\nMedians of {rounds} rounds; each ratio is of two rates of one round. CPU: of one core, by the program in the middle.");
+    println!("Connections: each transaction has its own; for these nidhaagufd's clock ran {FAST} (with few slots {FASTER}) times as fast.");
     println!(
-        "\n{:24}{:>26}{:>26}{:>26}",
-        "a second, ratio, CPU", KINDS[0].title, KINDS[1].title, KINDS[2].title
-    );
-    for (way, kinds) in WAYS.iter().zip(results) {
-        let mut line = format!("{:24}", name(*way));
-        for (kind, measured) in kinds.iter().enumerate() {
-            let (here, beside) = (median(measured), median(&results[0][kind]));
-            let share = here.share.map_or("-".into(), |share| format!("{:.0}%", 100.0 * share));
-            line += &format!("{:>12.0}{:>7.2}{share:>7}", here.rate, here.rate / beside.rate);
-        }
-        println!("{line}");
-    }
-    println!("\nMedians of {ROUNDS} rounds. CPU: of one core, by the program in the middle. Connections: each transaction has its own;");
-    println!("for these nidhaagufd's clock ran {FAST} ({FEW} slots: {FASTER}) times as fast. At its true clock a finished connection keeps its");
-    println!(
-        "slot for {FINISHED} s, so that {SLOTS} slots take {} new connections a second over time.",
+        "At its true clock a finished connection keeps its slot for {FINISHED} s: {SLOTS} slots take {} new ones a second over time.",
         SLOTS / FINISHED as usize
     );
 }
@@ -210,16 +110,35 @@ fn print_table(results: &[Vec<Vec<Measured>>]) {
 #[cfg(test)]
 mod tests {
     use super::*;
+    use std::collections::HashSet;
+    use std::path::Path;
 
     #[test]
-    fn the_median_is_the_middle_one() {
-        let measured = [30.0, 10.0, 20.0].map(|rate| Measured { rate, share: Some(rate / 100.0) });
-        assert_eq!((median(&measured).rate, median(&measured).share), (20.0, Some(0.2)));
+    fn options_are_read_in_any_order() {
+        let order = |rounds, beside: Option<&str>| Order { rounds, beside: beside.map(Into::into) };
+        assert_eq!(Order::read(&[]), Ok(order(ROUNDS, None)));
+        assert_eq!(Order::read(&["--rounds", "3"]), Ok(order(3, None)));
+        let both = order(3, Some("/x"));
+        assert_eq!(Order::read(&["--beside", "/x", "--rounds", "3"]), Ok(both));
+        let wrong: [&[&str]; 4] =
+            [&["--rounds"], &["--rounds", "0"], &["--beside"], &["--slots", "3"]];
+        for options in wrong {
+            assert!(Order::read(options).is_err(), "{options:?}");
+        }
     }
 
     #[test]
-    fn processor_time_is_read_by_name() {
-        let stat = "812 (a (b) c) S 1 2 3 4 5 6 7 8 9 10 150 25 0 0";
-        assert_eq!((ticks_of("a (b) c", stat), ticks_of("c", stat)), (Some(175), None));
+    fn every_way_is_measured_in_every_round_and_begins_one() {
+        for beside in [None, Some(Path::new("/x"))] {
+            let ways = ways::all(beside).len();
+            let turns = turns(ways, ways);
+            let places: HashSet<_> =
+                turns.iter().map(|turn| (turn.round, turn.kind, turn.way)).collect();
+            let each = KINDS.len() * ways;
+            assert_eq!((turns.len(), places.len()), (each * ways, each * ways));
+            let first: HashSet<_> = turns.iter().step_by(each).map(|turn| turn.way).collect();
+            assert_eq!(first.len(), ways);
+            assert_eq!(turns.iter().filter(|turn| turn.is_last).count(), ways);
+        }
     }
 }
