@@ -130,9 +130,11 @@ fit-packets address now [] bytes = tt
 fit-packets address now (p ∷ ps) bytes = (bytes .0, fit-packets address now ps (bytes .1))
 
 fit-taken : (s : State) (now : ℕ) (ps : List (List ℕ)) → AllBytes ps → AllFit (tickAndPackets s now ps)
-fit-taken s now ps bytes =
-    (tt, by-test (λ (qs : List (List ℕ)). AllFit (packetCalls (s .director .service .address) now qs)) (isAccepted (tickOf (s .director) (s .row) now .answer)) ps []
-    (λ _. fit-packets (s .director .service .address) now ps bytes) (λ _. tt))
+fit-taken s now ps bytes = (
+  tt,
+  by-test (λ (qs : List (List ℕ)). AllFit (packetCalls (s .director .service .address) now qs)) (isAccepted (tickOf (s .director) (s .row) now .answer)) ps []
+      (λ _. fit-packets (s .director .service .address) now ps bytes) (λ _. tt),
+)
 
 fit-called : (s : State) (m : Step) → StepFits m → AllFit (callsOf s m)
 fit-called s (one c) fits = (fits, tt)

@@ -192,6 +192,9 @@ pub fn outcome_of(director: Director, carried: Carried) -> Outcome
 {
     let answer = carried.answer;
     let shift = carried.shift;
+    if is_same(shift) {
+        return Outcome { answer, director };
+    }
     Outcome {
         answer,
         director: apply_shift(director, shift),
