@@ -1,6 +1,6 @@
 -- A call that takes many packets leaves what the single calls leave that it stands for, so demand 3 holds of runs with such calls. Assumes nothing.
-use Prim.Native.Nat.{ℕ}
-use mathlib.Core.Bool.{Bool, true, false, cond}
+use Prim.Native.Nat.{ℕ, _<_}
+use mathlib.Core.Bool.{Bool, true, false}
 use mathlib.Core.List.{List, [], _∷_, _++_}
 use mathlib.Core.Logic.{⊎-elim}
 use mathlib.Core.Path.{_≡_, refl, sym, ap, subst, _∙_}
@@ -8,6 +8,7 @@ use native.Mathlib.Omega.{arith}
 use lib.Dec.{ltb}
 use Rattle.lists.proofs.Cases.{truth, by-test}
 use Rattle.lists.proofs.Folds.{fold-none}
+use Rattle.checksum.specs.Ones.{Bytes}
 use Rattle.table.specs.Slots.{slots}
 use Rattle.director.specs.declared.state.Service.{Service}
 use Rattle.director.specs.declared.state.Director.{Director}
@@ -16,14 +17,16 @@ use Rattle.director.specs.Judge.{soundOf}
 use Rattle.director.specs.Tick.{tickOnClock, tickOf}
 use Rattle.director.specs.Current.{Current}
 use Rattle.director.proofs.Staying.{packet-stays, ticked-current}
-use Rattle.serving.specs.Way.{wayOf}
-use Rattle.serving.specs.Serve.{Standing, standing, onceServed, servedBy, AllBytes, afterTick}
-use Rattle.serving.specs.Burst.{packetsIn, packetsBelow, bursting, burstCallOf}
+use Rattle.serving.specs.Told.{toldBy}
+use Rattle.serving.specs.Way.{wayOf, takenOf}
+use Rattle.serving.specs.Serve.{Standing, onceServed, servedBy, AllBytes, afterTick}
+use Rattle.serving.specs.Burst.{Burst, packetsIn, packetAt, packetsBelow, toldAt, bursting, burstOf, burstCallOf}
+use Rattle.serving.proofs.Records.{burst-told}
 use Rattle.serving.proofs.Turns.{burst-served, burst-bytes}
-use Rattle.audit.specs.Calls.{Call, setUp, packet, Fits, AllFit, State, next, after, recordOf}
+use Rattle.audit.specs.Calls.{Call, setUp, tick, packet, AllFit, State, called, next, after, recordOf}
 use Rattle.audit.specs.Book.{bookOf}
 use Rattle.audit.specs.Claim.{Claim}
-use Rattle.audit.specs.Many.{Step, one, burst, serve, StepFits, AllStepsFit, packetsTaken, left, packetCalls, tickAndPackets, callsOf, leftBy, callsIn, Demand3Many}
+use Rattle.audit.specs.Many.{Step, one, burst, serve, StepFits, AllStepsFit, packetsTaken, left, packetCalls, tickAndPackets, callsOf, leftBy, callsIn, Demand3Many, RecordsTell}
 use Rattle.audit.proofs.Demand3.{demand3}
 
 -- 1. Packets one after another
@@ -44,9 +47,18 @@ module _ (address now : ℕ) where
       let (current, stays) = packet-stays (t .director) (t .row) (a .current) (wayOf (t .director .service .address) p) p (bytes .0) in
       record { current = current; clock = stays .1 ∙ a .clock; virtual = ap (λ (g : Service). g .address) (stays .0) ∙ a .virtual }
 
+  served-at : (ps : List (List ℕ)) (t : Standing) → AllBytes ps → At address now (passing t) → At address now (passing (servedBy t ps))
+  unfolding servedBy
+  served-at [] t bytes a = a
+  served-at (p ∷ ps) t bytes a = served-at ps (onceServed t p) (bytes .1) (packet-at t p (bytes .0, tt) a)
+
   -- the single call of a packet
   once-called : (t : Standing) (p : List ℕ) → At address now (passing t) → next (passing t) (packet (wayOf address p) p now) ≡ passing (onceServed t p)
   once-called t p a = rw (← (a .clock), ← (a .virtual)) refl
+
+  once-answered : (t : Standing) (p : List ℕ) → At address now (passing t)
+      → takenOf (t .director) (t .row) p .answer ≡ called (passing t) (packet (wayOf address p) p now) .answer
+  once-answered t p a = rw (← (a .clock), ← (a .virtual)) refl
 
   served-called : (ps : List (List ℕ)) (t : Standing) → AllBytes ps → At address now (passing t) → passing (servedBy t ps) ≡ after (passing t) (packetCalls address now ps)
   unfolding servedBy
@@ -77,14 +89,17 @@ module _ (s : State) (now : ℕ) where
   unfolding servedBy
   none-served t = refl
 
+  ticked-at : isAccepted (tickOf (s .director) (s .row) now .answer) ≡ true → At (s .director .service .address) now (passing ticked)
+  ticked-at accepted =
+      let (current, clock) = ticked-current (s .director) (s .row) now accepted in
+      record { current = current; clock = clock; virtual = ap (λ (g : Service). g .address) (tick-service (s .director) (s .row) now) }
+
   -- packets after a tick
   served-left : (ps : List (List ℕ)) → AllBytes ps → passing (servedBy ticked (packetsTaken s now ps)) ≡ after s (tickAndPackets s now ps)
   served-left ps bytes =
       ⊎-elim
       (λ (e : isAccepted (tickOf (s .director) (s .row) now .answer) ≡ true).
-      let (current, clock) = ticked-current (s .director) (s .row) now e in
-      let a : At (s .director .service .address) now (passing ticked) = record { current = current; clock = clock; virtual = ap (λ (g : Service). g .address) (tick-service (s .director) (s .row) now) } in
-      rw e (served-called (s .director .service .address) now ps ticked bytes a))
+      rw e (served-called (s .director .service .address) now ps ticked bytes (ticked-at e)))
       (λ (e : isAccepted (tickOf (s .director) (s .row) now .answer) ≡ false). rw (e, none-served ticked) refl)
       (truth (isAccepted (tickOf (s .director) (s .row) now .answer)))
 
@@ -151,3 +166,42 @@ demand3-many s b g given ms fits all accepted =
     let steps = one first ∷ ms in
     subst (λ (t : State). Claim t (bookOf b (recordOf s (callsIn s steps)))) (sym (left-by steps s (fits, all)))
     (demand3 s b g given (callsIn (next s first) ms) fits (fit-all ms (next s first) all) accepted)
+
+-- 4. The records of a burst
+
+module _ (s : State) (packets records : List ℕ) (now : ℕ) (bytes : Bytes packets) (accepted : isAccepted (tickOf (s .director) (s .row) now .answer) ≡ true) where
+  abbrev address : ℕ
+  address = s .director .service .address
+
+  abbrev start : Burst
+  start = bursting (ticked s now .director) (ticked s now .row) packets records
+
+  -- the state that packet k meets
+  abbrev met-by : ℕ → Standing
+  met-by k = servedBy (ticked s now) (packetsBelow packets records k)
+
+  -- it is what the burst has then
+  answer-met : (k : ℕ) → k < packetsIn packets records → let p = packetAt packets records k in
+      takenOf (burstOf start k .director) (burstOf start k .row) p .answer ≡ takenOf (met-by k .director) (met-by k .row) p .answer
+  answer-met k h = let (director, row) = burst-served start [] k (omega (arith, h)) in rw (director, row)
+
+  -- and the single calls too
+  answer-called : (k : ℕ) → let p = packetAt packets records k in
+      takenOf (met-by k .director) (met-by k .row) p .answer
+      ≡ called (after s (tick now ∷ packetCalls address now (packetsBelow packets records k))) (packet (wayOf address p) p now) .answer
+  answer-called k =
+      let a = served-at address now (packetsBelow packets records k) (ticked s now) (burst-bytes packets records bytes k) (ticked-at s now accepted) in
+      let p = packetAt packets records k in
+      subst (λ (t : State). takenOf (met-by k .director) (met-by k .row) p .answer ≡ called t (packet (wayOf address p) p now) .answer)
+      (served-called address now (packetsBelow packets records k) (ticked s now) (burst-bytes packets records bytes k) (ticked-at s now accepted))
+      (once-answered address now (met-by k) p a)
+
+  tells : (k : ℕ) → k < packetsIn packets records → let p = packetAt packets records k in
+      toldAt (burstCallOf (s .director) (s .row) packets records now .left .records) k
+      ≡ toldBy (called (after s (tick now ∷ packetCalls address now (packetsBelow packets records k))) (packet (wayOf address p) p now) .answer)
+  unfolding burstCallOf
+  tells k h =
+      rw accepted (burst-told start k (packetsIn packets records) h (omega arith) ∙ ap toldBy (answer-met k h ∙ answer-called k))
+
+pub records-tell : RecordsTell
+records-tell s packets records now k bytes accepted h = tells s packets records now bytes accepted k h

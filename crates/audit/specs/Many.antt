@@ -1,7 +1,7 @@
 -- Runs in which calls stand that take many packets: each stands for a tick and the packet calls that come after it. Assumes nothing: these
 -- are definitions.
-use Prim.Native.Nat.{ℕ}
-use mathlib.Core.Bool.{cond}
+use Prim.Native.Nat.{ℕ, _<_}
+use mathlib.Core.Bool.{true, cond}
 use mathlib.Core.List.{List, [], _∷_, _++_, map}
 use mathlib.Core.Path.{_≡_}
 use Rattle.checksum.specs.Ones.{Bytes}
@@ -10,9 +10,10 @@ use Rattle.director.specs.declared.state.Service.{Service}
 use Rattle.director.specs.declared.state.Answer.{Answer}
 use Rattle.director.specs.State.{isAccepted}
 use Rattle.director.specs.Tick.{tickOf}
+use Rattle.serving.specs.Told.{toldBy}
 use Rattle.serving.specs.Way.{wayOf}
 use Rattle.serving.specs.Serve.{AllBytes, servedBy, afterTick}
-use Rattle.serving.specs.Burst.{packetsIn, packetsBelow, burstCallOf}
+use Rattle.serving.specs.Burst.{packetsIn, packetAt, packetsBelow, toldAt, burstCallOf}
 use Rattle.audit.specs.Calls.{Call, setUp, tick, packet, Fits, State, called, next, after, recordOf}
 use Rattle.audit.specs.Book.{Book, bookOf}
 use Rattle.audit.specs.Claim.{Claim}
@@ -76,3 +77,13 @@ Demand3Many =
     (s : State) (b : Book) (g : Service) (given : List Server) (ms : List Step)
     → Fits (setUp g given) → AllStepsFit ms → called s (setUp g given) .answer ≡ Answer.Done
     → Claim (leftBy s (one (setUp g given) ∷ ms)) (bookOf b (recordOf s (callsIn s (one (setUp g given) ∷ ms))))
+
+-- The records of a burst tell the answers: of packet k, that to the single call of it, after the tick and the packets before it
+abbrev pub RecordsTell : Type 0
+RecordsTell =
+    (s : State) (packets records : List ℕ) (now k : ℕ) → Bytes packets → isAccepted (tickOf (s .director) (s .row) now .answer) ≡ true
+    → k < packetsIn packets records
+    → let address = s .director .service .address in
+    let before = after s (tick now ∷ packetCalls address now (packetsBelow packets records k)) in
+    let p = packetAt packets records k in
+    toldAt (burstCallOf (s .director) (s .row) packets records now .left .records) k ≡ toldBy (called before (packet (wayOf address p) p now) .answer)

@@ -1,5 +1,5 @@
 -- Refusals have numbers up to 15. Assumes nothing.
-use Prim.Native.Nat.{ℕ, _≤_}
+use Prim.Native.Nat.{_≤_}
 use native.Mathlib.Omega.{arith}
 use Rattle.packet.specs.declared.read.Fault.{Fault}
 use Rattle.packet.specs.Reading.{faultNumber}

@@ -3,3 +3,4 @@ pub mod Standings
 pub mod Bursts
 pub mod Lengths
 pub mod Turns
+pub mod Records

@@ -1,6 +1,7 @@
 -- Each packet of a burst is met as it was handed in, and the burst is the single calls one after another. Assumes nothing.
-use Prim.Native.Nat.{ℕ, zero, suc, _+_, _*_, _-_, _≤_, _<_, min}
-use mathlib.Core.List.{List, [], _∷_, _++_}
+use Prim.Native.Nat.{ℕ, zero, suc, _+_, _*_, _-_, _≤_, min}
+use mathlib.Core.List.{List, [], _∷_}
+use mathlib.Core.Logic.{_≢_}
 use mathlib.Core.Path.{_≡_, refl, sym, ap, subst, _∙_}
 use native.Mathlib.Omega.{arith}
 use lib.ListN.{length, getD, set, take, drop, length-drop}
@@ -12,7 +13,7 @@ use Rattle.packet.proofs.Parts.{onPart-length, onPart-after}
 use Rattle.serving.specs.declared.told.Told.{Told}
 use Rattle.serving.specs.Way.{wayOf, takenOf}
 use Rattle.serving.specs.Serve.{Standing, standing, onceServed, servedBy, AllBytes}
-use Rattle.serving.specs.Burst.{Burst, packetsIn, lengthOf, packetAt, packetsBelow, recorded, bursting, burstStep, burstOf}
+use Rattle.serving.specs.Burst.{Burst, packetsIn, lengthOf, packetAt, packetsBelow, recorded, burstStep, burstOf}
 use Rattle.serving.proofs.Lengths.{packet-length}
 use Rattle.serving.proofs.Standings.{served-append, append-bytes}
 
@@ -23,13 +24,15 @@ pub record Ahead (b c : Burst) (k : ℕ) : Type 0 where
   pub bytes : (j : ℕ) → k ≤ j → drop (2048 * j) (c .packets) ≡ drop (2048 * j) (b .packets)
   pub lengths : (j : ℕ) → lengthOf (c .records) j ≡ lengthOf (b .records) j
 
--- writing an answer leaves every length
+-- writing an answer leaves every other word
+pub elsewhere : (records : List ℕ) (k : ℕ) (t : Told) (i : ℕ) → i ≢ 4 * k + 1 → i ≢ 4 * k + 2 → i ≢ 4 * k + 3 → getD (recorded records k t) i 0 ≡ getD records i 0
+elsewhere records k t i a b c =
+    getD-set-other (set (set records (4 * k + 1) (t .refusal)) (4 * k + 2) (t .number)) (4 * k + 3) i (t .change) 0 c
+    ∙ getD-set-other (set records (4 * k + 1) (t .refusal)) (4 * k + 2) i (t .number) 0 b
+    ∙ getD-set-other records (4 * k + 1) i (t .refusal) 0 a
+
 recorded-lengths : (records : List ℕ) (k : ℕ) (t : Told) (j : ℕ) → lengthOf (recorded records k t) j ≡ lengthOf records j
-recorded-lengths records k t j =
-    ap (λ n. min n 2048)
-    (getD-set-other (set (set records (4 * k + 1) (t .refusal)) (4 * k + 2) (t .number)) (4 * k + 3) (4 * j) (t .change) 0 (λ q. omega arith)
-    ∙ getD-set-other (set records (4 * k + 1) (t .refusal)) (4 * k + 2) (4 * j) (t .number) 0 (λ q. omega arith)
-    ∙ getD-set-other records (4 * k + 1) (4 * j) (t .refusal) 0 (λ q. omega arith))
+recorded-lengths records k t j = ap (λ n. min n 2048) (elsewhere records k t (4 * j) (λ q. omega arith) (λ q. omega arith) (λ q. omega arith))
 
 length-least : (records : List ℕ) (k : ℕ) → lengthOf records k ≤ 2048
 length-least records k = omega arith

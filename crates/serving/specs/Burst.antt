@@ -44,6 +44,10 @@ packetsBelow packets records (suc k) = packetsBelow packets records k ++ (packet
 abbrev pub recorded : (records : List ℕ) → ℕ → Told → List ℕ
 recorded records k t = set (set (set records (4 * k + 1) (t .refusal)) (4 * k + 2) (t .number)) (4 * k + 3) (t .change)
 
+-- what the records tell of packet k
+abbrev pub toldAt : (records : List ℕ) → ℕ → Told
+toldAt records k = record { refusal = getD records (4 * k + 1) 0; number = getD records (4 * k + 2) 0; change = getD records (4 * k + 3) 0 }
+
 -- packet k, of n bytes, by the single call that it is given to
 abbrev pub burstTaken : Burst → (k n : ℕ) → Burst
 burstTaken b k n =

@@ -11,7 +11,7 @@ use Rattle.lists.proofs.Folds.{fold-none, fold-next, fold-done}
 use Rattle.director.specs.State.{shifted}
 use Rattle.director.specs.Current.{Current}
 use Rattle.director.proofs.Shifting.{same-shifted}
-use Rattle.serving.specs.Burst.{packetsIn, bursting, burstStep, burstOf}
+use Rattle.serving.specs.Burst.{bursting, burstOf}
 use Rattle.serving.proofs.burst.burst_current.Statement.{statement}
 use Rattle.serving.proofs.burst.burst_current.Tie as tie
 use Rattle.serving.proofs.burst.burst_current.Reads as reads
