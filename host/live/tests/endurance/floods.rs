@@ -17,6 +17,9 @@ const CLIENTS: u16 = 4_096;
 const IN_A_ROW: usize = 256;
 /// Fewer than the device's queue takes.
 const BATCH: usize = 200;
+/// Within this time 99 of 100 answers must come, in one of so many measurements.
+const IN_TIME: Duration = Duration::from_millis(20);
+const MEASUREMENTS: usize = 10;
 
 /// Commands without a pause take nothing from the packets: each is passed and counted as the model says.
 pub fn commands_while_packets_pass() {
@@ -70,7 +73,7 @@ impl Drop for Stops<'_> {
 }
 
 /// A full table and a flood of packets of its last client: of 100 times `status` answers 99 within 20 ms, and SIGTERM ends
-/// the daemon. What else the machine does may spoil a measurement; a director that is too slow is so in all three.
+/// the daemon. What else the machine does may spoil a measurement; a director that is too slow is so in all of them.
 pub fn status_under_a_flood() {
     let place = Place::new("flood");
     let daemon = Daemon::start(&place, CONFIG, &["--slots", "4096"]);
@@ -78,14 +81,15 @@ pub fn status_under_a_flood() {
     fill_table(&daemon, &link);
     let packet = tcp(client(CLIENTS - 1), VIRTUAL, ACK).build();
     under_a_flood(&link, &packet, || {
-        let in_time = (0..3).any(|_| measure_status(&daemon) <= Duration::from_millis(20));
-        assert!(in_time, "status is late three times");
+        let in_time =
+            (0..MEASUREMENTS).any(|_| measure_status(&daemon).is_some_and(|late| late <= IN_TIME));
+        assert!(in_time, "status is late {MEASUREMENTS} times");
         daemon.end_by("TERM");
     });
 }
 
-/// The 99th percentile of the times of `status`.
-fn measure_status(daemon: &Daemon) -> Duration {
+/// The 99th percentile of the times of `status`; None where too few packets came for a flood.
+fn measure_status(daemon: &Daemon) -> Option<Duration> {
     let (before, started) = (kept(daemon), Instant::now());
     let mut times: Vec<_> = (0..300).map(|_| time_of_status(daemon)).collect();
     let rate = (kept(daemon) - before) as f64 / started.elapsed().as_secs_f64();
@@ -93,8 +97,7 @@ fn measure_status(daemon: &Daemon) -> Duration {
     let [median, late, last] = [149, 296, 299].map(|place| times[place]);
     let words = format!("median {median:.1?}, 99th percentile {late:.1?}, last {last:.1?}");
     link::say(&format!("status under {rate:.0} packets a second: {words}"));
-    assert!(rate > 10_000.0, "this is no flood");
-    late
+    (rate > 10_000.0).then_some(late)
 }
 
 fn client(number: u16) -> (u32, u16) {
