@@ -151,14 +151,19 @@ pub fn a_watch_that_reads(rig: &mut Rig) {
     assert!(news[0].is_empty() && news[3].ends_with("9       0            in service"), "{news:?}");
     rig.set_weight(0, 2);
     assert!(table()[3].ends_with("2       0            in service"));
-    for connections in 1..=5 {
-        open_connection(rig);
-        let opened = Instant::now();
-        let news = table();
-        assert!(news[1].contains(&format!(", {connections} of 64 slots used, ")), "{news:?}");
-        // it looks for watchers: neither a command nor the tick of a second made it do so
-        assert!(opened.elapsed() < Duration::from_millis(400), "{:?}", opened.elapsed());
-    }
+    let mut times: Vec<Duration> = (1..=11)
+        .map(|connections| {
+            open_connection(rig);
+            let opened = Instant::now();
+            let news = table();
+            assert!(news[1].contains(&format!(", {connections} of 64 slots used, ")), "{news:?}");
+            opened.elapsed()
+        })
+        .collect();
+    // it looks for watchers: neither a command nor the tick of a second made it do so. The median, since what else the
+    // machine does may hold some of them up
+    times.sort();
+    assert!(times[5] < Duration::from_millis(250), "{times:?}");
     rig.end_all();
 }
 
