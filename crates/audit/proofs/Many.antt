@@ -22,6 +22,7 @@ use Rattle.serving.specs.Way.{wayOf, takenOf}
 use Rattle.serving.specs.Serve.{Standing, onceServed, servedBy, AllBytes, afterTick}
 use Rattle.serving.specs.Burst.{Burst, packetsIn, packetAt, packetsBelow, toldAt, bursting, burstOf, burstCallOf}
 use Rattle.serving.proofs.Records.{burst-told}
+use Rattle.serving.proofs.Standings.{none-served}
 use Rattle.serving.proofs.Turns.{burst-served, burst-bytes}
 use Rattle.audit.specs.Calls.{Call, setUp, tick, packet, AllFit, State, called, next, after, recordOf}
 use Rattle.audit.specs.Book.{bookOf}
@@ -42,15 +43,15 @@ record At (address now : ℕ) (s : State) : Type 0 where
   virtual : s .director .service .address ≡ address
 
 module _ (address now : ℕ) where
-  packet-at : (t : Standing) (p : List ℕ) → AllBytes (p ∷ []) → At address now (passing t) → At address now (passing (onceServed t p))
+  packet-at : (t : Standing) (p : List ℕ) → Bytes p → At address now (passing t) → At address now (passing (onceServed t p))
   packet-at t p bytes a =
-      let (current, stays) = packet-stays (t .director) (t .row) (a .current) (wayOf (t .director .service .address) p) p (bytes .0) in
+      let (current, stays) = packet-stays (t .director) (t .row) (a .current) (wayOf (t .director .service .address) p) p bytes in
       record { current = current; clock = stays .1 ∙ a .clock; virtual = ap (λ (g : Service). g .address) (stays .0) ∙ a .virtual }
 
   served-at : (ps : List (List ℕ)) (t : Standing) → AllBytes ps → At address now (passing t) → At address now (passing (servedBy t ps))
   unfolding servedBy
   served-at [] t bytes a = a
-  served-at (p ∷ ps) t bytes a = served-at ps (onceServed t p) (bytes .1) (packet-at t p (bytes .0, tt) a)
+  served-at (p ∷ ps) t bytes a = served-at ps (onceServed t p) (bytes .1) (packet-at t p (bytes .0) a)
 
   -- the single call of a packet
   once-called : (t : Standing) (p : List ℕ) → At address now (passing t) → next (passing t) (packet (wayOf address p) p now) ≡ passing (onceServed t p)
@@ -64,7 +65,7 @@ module _ (address now : ℕ) where
   unfolding servedBy
   served-called [] t bytes a = refl
   served-called (p ∷ ps) t bytes a =
-      served-called ps (onceServed t p) (bytes .1) (packet-at t p (bytes .0, tt) a)
+      served-called ps (onceServed t p) (bytes .1) (packet-at t p (bytes .0) a)
       ∙ ap (λ (s : State). after s (packetCalls address now ps)) (sym (once-called t p a))
 
 -- 2. A call that takes many
@@ -84,10 +85,6 @@ tick-service d row now =
 module _ (s : State) (now : ℕ) where
   abbrev ticked : Standing
   ticked = afterTick (s .director) (s .row) [] now
-
-  none-served : (t : Standing) → servedBy t [] ≡ t
-  unfolding servedBy
-  none-served t = refl
 
   ticked-at : isAccepted (tickOf (s .director) (s .row) now .answer) ≡ true → At (s .director .service .address) now (passing ticked)
   ticked-at accepted =

@@ -1,9 +1,11 @@
 -- The reply to serving, made from the handed state's place alone, is the one that C gets. Assumes nothing.
 use Prim.Native.Nat.{ℕ, _≤_}
+use mathlib.Core.Bool.{false}
 use mathlib.Core.List.{List}
 use mathlib.Core.Path.{_≡_, refl, ap}
 use Rattle.director.specs.declared.state.Director.{Director}
 use Rattle.director.specs.declared.state.Answer.{Answer}
+use Rattle.director.specs.State.{isAccepted}
 use Rattle.director.specs.Tick.{tickOf}
 use Rattle.serving.specs.Serve.{Standing, standing, Served as ServedBy, packetsAfter, afterTick}
 use Rattle.serving.proofs.Standings.{served-back}
@@ -11,21 +13,16 @@ use Rattle.nidhaaguf.specs.declared.state.State.{State}
 use Rattle.nidhaaguf.specs.declared.reply.Reply.{Reply}
 use Rattle.nidhaaguf.specs.State.{decoded}
 use Rattle.nidhaaguf.specs.Reply.{replyOf, HandedIn}
-use Rattle.nidhaaguf_serve.specs.declared.Served.{Served}
-use Rattle.nidhaaguf_serve.specs.Serve.{ServedFrom}
+use Rattle.nidhaaguf_serve.specs.Serve.{counting, ServedFrom}
 
--- a reply, with how many packets there were
-abbrev pub counting : Reply → (taken unsent : ℕ) → Served
-counting r taken unsent = record { state = r .state; refusal = r .refusal; removed = r .number; taken = taken; unsent = unsent }
-
-module _ (given : State) (row counters : List ℕ) (clock most : ℕ) (d : Director) (a : Answer) (taken unsent : ℕ) (row′ counters′ : List ℕ) where
-  pub served-from : a ≡ tickOf (decoded given) row clock .answer → (taken ≤ packetsAfter a most) × (unsent ≤ taken)
+module _ (given : State) (row buffer counters : List ℕ) (clock most : ℕ) (d : Director) (a : Answer) (taken unsent : ℕ) (row′ buffer′ counters′ : List ℕ) where
+  pub served-from : a ≡ tickOf (decoded given) row clock .answer → (isAccepted a ≡ false → buffer′ ≡ buffer) → (taken ≤ packetsAfter a most) × (unsent ≤ taken)
       → ServedBy (afterTick (decoded given) row counters clock) (standing d row′ counters′) taken
       → (reply : Reply) → ((s : State) → HandedIn s (given .place) d a → reply ≡ replyOf s d a)
-      → ServedFrom given row counters clock most (counting reply taken unsent) row′ counters′
-  served-from e few served reply made =
+      → ServedFrom given row buffer counters clock most (counting reply taken unsent) row′ buffer′ counters′
+  served-from e unread few served reply made =
       let known : HandedIn given (given .place) d a = record {
         its-place = refl;
         back = λ nothing. ap (λ (s : Standing). s .director) (served-back (decoded given) row counters clock most _ taken (rw e at (few .0)) (rw e at nothing) served);
       } in
-      record { director = d; few = rw (← e) (few .0); unsent = few .1; served = served; reply = rw (made given known, e) }
+      record { director = d; few = rw (← e) (few .0); unread = rw e at unread; unsent = few .1; served = served; reply = rw (made given known, e) }

@@ -1,27 +1,33 @@
 -- What serving gives back to C. Assumes nothing: these are definitions.
 use Prim.Native.Nat.{ℕ, _≤_}
+use mathlib.Core.Bool.{false}
 use mathlib.Core.List.{List}
 use mathlib.Core.Path.{_≡_}
 use Rattle.director.specs.declared.state.Director.{Director}
 use Rattle.director.specs.declared.state.Answer.{Answer}
+use Rattle.director.specs.State.{isAccepted}
 use Rattle.director.specs.Tick.{tickOf}
 use Rattle.serving.specs.Serve.{standing, Served as ServedBy, packetsAfter, afterTick}
 use Rattle.nidhaaguf.specs.declared.state.State.{State}
+use Rattle.nidhaaguf.specs.declared.reply.Reply.{Reply}
 use Rattle.nidhaaguf.specs.State.{decoded}
 use Rattle.nidhaaguf.specs.Reply.{replyOf}
 use Rattle.nidhaaguf_serve.specs.declared.Served.{Served}
 
+-- a reply, with how many packets there were
+abbrev pub counting : Reply → (taken unsent : ℕ) → Served
+counting r taken unsent = record { state = r .state; refusal = r .refusal; removed = r .number; taken = taken; unsent = unsent }
+
 -- the reply: that of a tick with this answer, with the state after the packets; the state handed in, in every field, where the tick is refused
 abbrev pub servedReply : State → Director → Answer → (taken unsent : ℕ) → Served
-servedReply given d a taken unsent =
-    let r = replyOf given d a in
-    record { state = r .state; refusal = r .refusal; removed = r .number; taken = taken; unsent = unsent }
+servedReply given d a taken unsent = counting (replyOf given d a) taken unsent
 
 -- what serving came to: packets, as many as it says, none where the tick is refused, that the single calls one after another after the tick lead
--- from what it was handed to what it left
-pub record ServedFrom (given : State) (row counters : List ℕ) (clock most : ℕ) (r : Served) (row′ counters′ : List ℕ) : Type 0 where
+-- from what it was handed to what it left; and nothing is read into the buffer then
+pub record ServedFrom (given : State) (row buffer counters : List ℕ) (clock most : ℕ) (r : Served) (row′ buffer′ counters′ : List ℕ) : Type 0 where
   pub director : Director
   pub few : r .taken ≤ packetsAfter (tickOf (decoded given) row clock .answer) most
+  pub unread : isAccepted (tickOf (decoded given) row clock .answer) ≡ false → buffer′ ≡ buffer
   pub unsent : r .unsent ≤ r .taken
   pub served : ServedBy (afterTick (decoded given) row counters clock) (standing director row′ counters′) (r .taken)
   pub reply : r ≡ servedReply given director (tickOf (decoded given) row clock .answer) (r .taken) (r .unsent)

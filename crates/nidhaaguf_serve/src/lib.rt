@@ -34,7 +34,7 @@ pub extern "C" fn nidhaaguf_serve(
     clock: u32,
     most: u32,
 ) -> Served
-    ensures { λ r. ⌜ ServedFrom state (now (row .entry)) (now (counters .entry)) clock most r (now (row .exit)) (now (counters .exit)) ⌝ }
+    ensures { λ r. ⌜ ServedFrom state (now (row .entry)) (now (buffer .entry)) (now (counters .entry)) clock most r (now (row .exit)) (now (buffer .exit)) (now (counters .exit)) ⌝ }
 {
     let serving = serve(
         descriptor,

@@ -11,8 +11,9 @@ use serving::counters::count_answer;
 use serving::told::is_accepted;
 use serving::way::way_of;
 ghost use mathlib.Core.Path.{_≡_};
+ghost use mathlib.Core.Bool.{false};
 ghost use Prim.Native.Nat.{_≤_};
-ghost use Rattle.director.specs.State.{CanShift, shifted, carriedBy, result};
+ghost use Rattle.director.specs.State.{isAccepted, CanShift, shifted, carriedBy, result};
 ghost use Rattle.director.specs.Tick.{tickOf};
 ghost use Rattle.director.specs.Current.{Current};
 ghost use Rattle.serving.specs.Way.{wayOf, takenOf};
@@ -175,6 +176,7 @@ pub fn serve(
     most: u32,
 ) -> Serving
     ensures answer { λ r. ⌜ r .answer ≡ tickOf director (now (row .entry)) clock .answer ⌝ }
+    ensures unread { λ r. ⌜ (isAccepted (r .answer) ≡ false → now (buffer .exit) ≡ now (buffer .entry)) ⌝ }
     ensures few { λ r. ⌜ (r .taken ≤ packetsAfter (r .answer) most) × (r .unsent ≤ r .taken) ⌝ }
     ensures served { λ r. ⌜ Served (afterTick director (now (row .entry)) (now (counters .entry)) clock) (standing (r .director) (now (row .exit)) (now (counters .exit))) (r .taken) ⌝ }
 {

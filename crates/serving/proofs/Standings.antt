@@ -26,6 +26,10 @@ append-length : (ps qs : List (List ℕ)) → length (ps ++ qs) ≡ length ps + 
 append-length [] qs = omega arith
 append-length (p ∷ ps) qs = omega (arith, append-length ps qs)
 
+pub none-served : (s : Standing) → servedBy s [] ≡ s
+unfolding servedBy
+none-served s = refl
+
 pub served-append : (s : Standing) (ps qs : List (List ℕ)) → servedBy s (ps ++ qs) ≡ servedBy (servedBy s ps) qs
 unfolding servedBy
 served-append s [] qs = refl

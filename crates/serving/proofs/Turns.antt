@@ -15,7 +15,7 @@ use Rattle.serving.specs.Way.{wayOf, takenOf}
 use Rattle.serving.specs.Serve.{Standing, standing, onceServed, servedBy, AllBytes}
 use Rattle.serving.specs.Burst.{Burst, packetsIn, lengthOf, packetAt, packetsBelow, recorded, burstStep, burstOf}
 use Rattle.serving.proofs.Lengths.{packet-length}
-use Rattle.serving.proofs.Standings.{served-append, append-bytes}
+use Rattle.serving.proofs.Standings.{none-served, served-append, append-bytes}
 
 -- 1. What is still to come is as it was handed in
 
@@ -96,10 +96,6 @@ SameState b t = (b .director ≡ t .director) × (b .row ≡ t .row)
 step-served : (b : Burst) (t : Standing) (k : ℕ) (p : List ℕ) → packetAt (b .packets) (b .records) k ≡ p → SameState b t → SameState (burstStep b k) (onceServed t p)
 unfolding burstStep
 step-served b t k p e same = rw (e, same .0, same .1) (refl, refl)
-
-none-served : (t : Standing) → servedBy t [] ≡ t
-unfolding servedBy
-none-served t = refl
 
 one-served : (t : Standing) (p : List ℕ) → servedBy t (p ∷ []) ≡ onceServed t p
 unfolding servedBy

@@ -13,7 +13,7 @@ returns c =
     let d = s .before .before .before .before in
     let a = d .before .before .before .args in
     let met = rw (d .decode .ensures) at (s .serve .ensures) in
-    served-from (a .state) (now (a .row)) (now (a .counters)) (a .clock) (a .most) _ _ _ _ _ _ (met .0) (met .1 .0) (met .1 .1) _ (replied .reply-of .ensures)
+    served-from (a .state) (now (a .row)) (now (a .buffer)) (now (a .counters)) (a .clock) (a .most) _ _ _ _ _ _ _ (met .0) (met .1 .0) (met .1 .1 .0) (met .1 .1 .1) _ (replied .reply-of .ensures)
 
 pub nidhaaguf-serve-spec : {M : Type 1} → statement M
 nidhaaguf-serve-spec =

@@ -1,6 +1,7 @@
 -- `serve::serve` meets its contract: by whether the tick is accepted.
 -- Assumes nothing.
-use mathlib.Core.Path.{sym, _∙_}
+use mathlib.Core.Bool.{true≢false}
+use mathlib.Core.Path.{refl, sym, _∙_}
 use native.Mathlib.Omega.{arith}
 use denote.Ref.{now}
 use borrow.Author.Tests.{not-false}
@@ -14,7 +15,7 @@ returns c =
     let ticked = c .before .before .before .before .before in
     let a = ticked .before .before .before .before .args in
     let stands = tick-standing (a .director) (now (a .row)) (now (a .counters)) (a .clock) (ticked .tick .result) _ (ticked .tick .ensures) in
-    (stands .0, ((omega arith, omega arith), rw (← (stands .1)) (served-none _)))
+    (stands .0, (λ _. refl, ((omega arith, omega arith), rw (← (stands .1)) (served-none _))))
 
 serve-current-requires : tie.Need-serve-current-requires
 serve-current-requires c κs =
@@ -31,7 +32,8 @@ returns-2 c =
     let a = ticked .before .before .before .before .args in
     let stands = tick-standing (a .director) (now (a .row)) (now (a .counters)) (a .clock) (ticked .tick .result) _ (ticked .tick .ensures) in
     let e = done .serve-current .ensures in
-    (stands .0, ((rw (sym (left .before .is-accepted .ensures) ∙ not-false _ (left .if1 .left)) (e .0 .0), e .0 .1), rw (← (stands .1)) (e .1)))
+    let accepted = sym (left .before .is-accepted .ensures) ∙ not-false _ (left .if1 .left) in
+    (stands .0, (λ refused. absurd (true≢false (sym accepted ∙ refused)), ((rw accepted (e .0 .0), e .0 .1), rw (← (stands .1)) (e .1))))
 
 pub serve-spec : {M : Type 1} → statement M
 serve-spec =
