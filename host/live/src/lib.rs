@@ -8,21 +8,12 @@
 #![warn(missing_docs)]
 
 pub mod clock;
-pub mod commands;
 pub mod config;
-pub mod connection;
 pub mod control;
 pub mod counters;
-pub mod flags;
-pub mod given;
 pub mod instance;
-pub mod metrics;
 pub mod packet_thread;
 pub mod serve;
-pub mod setup;
-pub mod socket;
-pub mod status;
 #[allow(unsafe_code)]
 pub mod system;
 pub mod tun;
-pub mod words;

@@ -1,7 +1,7 @@
 //! The operator's command: says one thing to a running director and prints its answer.
 
-use live::commands::{self, Command};
 use live::config::DEFAULT_SOCKET;
+use live::control::commands::{self, Command};
 use std::io::{self, BufRead, BufReader, ErrorKind, Write};
 use std::os::unix::net::UnixStream;
 use std::path::{Path, PathBuf};

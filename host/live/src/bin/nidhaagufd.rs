@@ -1,15 +1,16 @@
 //! The director's daemon: reads its configuration, opens its device and its control socket, and serves.
 
 use live::clock::Clock;
+use live::config::flags::{self, Flags, Request};
 use live::config::Config;
+use live::config::{setup, words};
+use live::control::socket::Socket;
 use live::control::Control;
-use live::flags::{self, Flags, Request};
 use live::instance::Instance;
 use live::packet_thread::PacketThread;
 use live::serve::serve;
-use live::socket::Socket;
+use live::system;
 use live::tun::Tun;
-use live::{setup, system, words};
 use nidhaaguf::Director;
 use std::io::{self, Write};
 use std::process::ExitCode;

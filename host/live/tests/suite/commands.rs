@@ -1,7 +1,7 @@
 //! Commands and their answers.
 
 use crate::support::*;
-use live::commands::Command;
+use live::control::commands::Command;
 use live::instance::Instance;
 use std::time::Instant;
 

@@ -1,9 +1,9 @@
 //! Configuration: what is read, and what is said of what isn't.
 
 use crate::support::CONFIG;
+use live::config::flags::{self, Flags, Request};
+use live::config::setup;
 use live::config::Config;
-use live::flags::{self, Flags, Request};
-use live::setup;
 use nidhaaguf::{Protocol, Scheduler};
 use std::ffi::OsString;
 

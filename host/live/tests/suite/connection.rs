@@ -1,6 +1,6 @@
 //! One client of the control socket, at the other end of a pair of sockets.
 
-use live::connection::{Connection, MOST_COMMAND, PATIENCE};
+use live::control::connection::{Connection, MOST_COMMAND, PATIENCE};
 use std::io::{Read, Write};
 use std::net::Shutdown;
 use std::os::unix::net::UnixStream;

@@ -1,10 +1,10 @@
 //! What the tests share: an instance without a device, and the packets it is given.
 
 use live::clock::Clock;
+use live::config::flags::Flags;
+use live::config::setup;
 use live::config::Config;
-use live::flags::Flags;
 use live::instance::Instance;
-use live::setup;
 use reference::packets::{self, End, SYN};
 use std::os::unix::net::UnixDatagram;
 use std::time::Instant;

@@ -1,8 +1,8 @@
 //! The texts of status and metrics.
 
 use crate::support::*;
+use live::control::{metrics, status};
 use live::instance::Instance;
-use live::{metrics, status};
 use std::os::unix::net::UnixDatagram;
 use std::time::{Duration, Instant};
 

@@ -1,12 +1,17 @@
 //! The control socket's clients. To talk with them takes no director; an answer does, and is a bounded amount of work between
 //! two calls of the packet thread.
 
-use crate::commands::Command;
-use crate::connection::Connection;
+pub mod commands;
+pub mod connection;
+pub mod metrics;
+pub mod socket;
+pub mod status;
+
 use crate::instance::Instance;
-use crate::socket::Socket;
-use crate::status;
 use crate::system::Waited;
+use commands::Command;
+use connection::Connection;
+use socket::Socket;
 use std::io::ErrorKind;
 use std::time::{Duration, Instant};
 

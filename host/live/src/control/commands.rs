@@ -1,7 +1,8 @@
 //! An operator's commands: read from a line, and answered.
 
+use crate::config::words;
+use crate::control::{metrics, status};
 use crate::instance::Instance;
-use crate::{metrics, status, words};
 use nidhaaguf::Refusal;
 
 /// The commands, for people.

@@ -1,8 +1,8 @@
 //! The counts in the text form of Prometheus.
 
+use crate::control::status;
 use crate::counters::{CHANGES, WAYS};
 use crate::instance::Instance;
-use crate::status;
 use nidhaaguf::Refusal;
 use std::fmt::{Display, Write};
 

@@ -1,7 +1,7 @@
 //! From a configuration to the library's director, and what to say where that isn't possible.
 
+use crate::config::given::Given;
 use crate::config::Config;
-use crate::given::Given;
 use nidhaaguf::{raw, Director, Refusal, Server};
 use std::os::unix::ffi::OsStrExt;
 

@@ -1,7 +1,7 @@
 //! The table of the servers that an operator reads.
 
+use crate::config::words;
 use crate::instance::Instance;
-use crate::words;
 use std::fmt::Write;
 
 const TITLES: [&str; 5] = ["number", "address", "weight", "connections", "state"];

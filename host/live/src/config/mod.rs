@@ -1,8 +1,12 @@
 //! The configuration: a file of settings, one to a line, and flags that override some.
 
-use crate::flags::Flags;
-use crate::given::Given;
-use crate::words;
+pub mod flags;
+pub mod given;
+pub mod setup;
+pub mod words;
+
+use flags::Flags;
+use given::Given;
 use nidhaaguf::{Protocol, Scheduler, Server, Settings};
 use std::fs::File;
 use std::io::Read;
@@ -17,7 +21,7 @@ const DEFAULT_SLOTS: usize = 4_096;
 /// More than any good file has: the wrong file is not read to its end.
 const MOST_BYTES: u64 = 65_536;
 
-/// A whole configuration. Whether the library takes it is for [`crate::setup`] to find out.
+/// A whole configuration. Whether the library takes it is for [`crate::config::setup`] to find out.
 #[derive(Clone, Debug, PartialEq, Eq)]
 pub struct Config {
     /// The virtual address and port, and the protocol.

@@ -1,7 +1,7 @@
 //! The daemon's command line.
 
-use crate::given::Given;
-use crate::words;
+use crate::config::given::Given;
+use crate::config::words;
 use nidhaaguf::Scheduler;
 use std::ffi::OsString;
 use std::path::PathBuf;
