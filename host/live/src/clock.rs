@@ -1,34 +1,37 @@
-//! The clock that the library is given: whole seconds since the start.
+//! The clock that the library is given: whole seconds since the machine's start, the time that it was suspended included. So
+//! it goes on in the next process, and idle limits go on being true.
 
-use std::time::{Duration, Instant};
+use std::time::Duration;
 
 const NANOSECONDS: u128 = 1_000_000_000;
 
-/// A monotonic clock, `speed` times as fast as time.
-#[derive(Clone, Copy, Debug)]
+/// A clock that is read off the time since the machine's start, `speed` times as fast.
+#[derive(Clone, Copy, Debug, PartialEq, Eq)]
 pub struct Clock {
-    start: Instant,
-    speed: u32,
+    /// When it showed 0.
+    pub zero: Duration,
+    /// How many times as fast as time it runs.
+    pub speed: u32,
 }
 
 impl Clock {
-    /// A clock that shows 0 at `start`.
-    pub fn new(start: Instant, speed: u32) -> Clock {
-        Clock { start, speed }
+    /// The clock of that speed. A faster one than time begins now: else it could have come to its last second already.
+    pub fn new(now: Duration, speed: u32) -> Clock {
+        Clock { zero: if speed == 1 { Duration::ZERO } else { now }, speed }
     }
 
     /// The second shown. It never wraps: past the last number of 32 bits it stays there.
-    pub fn second(&self, now: Instant) -> u32 {
+    pub fn second(&self, now: Duration) -> u32 {
         u32::try_from(self.nanoseconds(now) / NANOSECONDS).unwrap_or(u32::MAX)
     }
 
     /// How long until it shows another second.
-    pub fn until_next(&self, now: Instant) -> Duration {
+    pub fn until_next(&self, now: Duration) -> Duration {
         let left = NANOSECONDS - self.nanoseconds(now) % NANOSECONDS;
         Duration::from_nanos(left.div_ceil(u128::from(self.speed)) as u64)
     }
 
-    fn nanoseconds(&self, now: Instant) -> u128 {
-        now.saturating_duration_since(self.start).as_nanos() * u128::from(self.speed)
+    fn nanoseconds(&self, now: Duration) -> u128 {
+        now.saturating_sub(self.zero).as_nanos() * u128::from(self.speed)
     }
 }

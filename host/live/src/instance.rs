@@ -4,7 +4,7 @@ use crate::clock::Clock;
 use crate::counters::Counters;
 use nidhaaguf::{Director, Refusal, Served, Settings};
 use std::os::fd::AsFd;
-use std::time::{Duration, Instant};
+use std::time::Duration;
 
 /// A running director.
 #[derive(Debug)]
@@ -42,8 +42,8 @@ impl Instance {
         self.weights_set + self.counters.connection_changes()
     }
 
-    /// Moves the library's clock to now, and so removes the idle connections.
-    pub fn tick(&mut self, now: Instant) {
+    /// Moves the library's clock to now, as time since the machine's start, and so removes the idle connections.
+    pub fn tick(&mut self, now: Duration) {
         let second = self.clock.second(now);
         if second == self.director.clock() {
             return;
@@ -54,7 +54,7 @@ impl Instance {
     }
 
     /// How long until the clock shows another second.
-    pub fn until_tick(&self, now: Instant) -> Duration {
+    pub fn until_tick(&self, now: Duration) -> Duration {
         self.clock.until_next(now)
     }
 

@@ -12,6 +12,7 @@ pub mod config;
 pub mod control;
 pub mod counters;
 pub mod instance;
+pub mod log;
 pub mod packet_thread;
 pub mod serve;
 #[allow(unsafe_code)]

@@ -9,7 +9,7 @@ use crate::instance::Instance;
 use crate::system::{self, Waited};
 use nidhaaguf::End;
 use std::io::{self, ErrorKind, PipeReader, PipeWriter};
-use std::os::fd::OwnedFd;
+use std::os::fd::{AsFd, BorrowedFd, OwnedFd};
 use std::sync::atomic::{AtomicBool, Ordering};
 use std::sync::mpsc::{self, Receiver, RecvTimeoutError, SyncSender};
 use std::sync::Arc;
@@ -30,6 +30,7 @@ pub type Returned = (Instance, Result<(), String>);
 #[derive(Debug)]
 pub struct PacketThread {
     thread: JoinHandle<()>,
+    device: Arc<OwnedFd>,
     lent: SyncSender<Instance>,
     returned: Receiver<Returned>,
     wanted: Arc<AtomicBool>,
@@ -45,8 +46,9 @@ impl PacketThread {
             let (back, returned) = mpsc::sync_channel(1);
             let (end, other_end) = io::pipe()?;
             let wanted = Arc::new(AtomicBool::new(false));
+            let device = Arc::new(device.into());
             let worker = Worker {
-                device: device.into(),
+                device: device.clone(),
                 name: name.to_string(),
                 lent: director,
                 returned: back,
@@ -54,7 +56,7 @@ impl PacketThread {
                 _end: other_end,
             };
             let thread = Builder::new().name("packets".into()).spawn(|| worker.run())?;
-            Ok(PacketThread { thread, lent, returned, wanted, end })
+            Ok(PacketThread { thread, device, lent, returned, wanted, end })
         };
         start().map_err(|error| format!("the packet thread can't be started: {error}"))
     }
@@ -78,6 +80,11 @@ impl PacketThread {
         }
     }
 
+    /// Its device. Who reads it while the thread has a director takes packets from that.
+    pub fn device(&self) -> BorrowedFd<'_> {
+        self.device.as_fd()
+    }
+
     /// What to wait for to be told of its end.
     pub fn waited(&self) -> Waited {
         Waited::new(&self.end, true, false)
@@ -86,7 +93,7 @@ impl PacketThread {
 
 /// What the thread has.
 struct Worker {
-    device: OwnedFd,
+    device: Arc<OwnedFd>,
     name: String,
     lent: Receiver<Instance>,
     returned: SyncSender<Returned>,

@@ -2,6 +2,7 @@
 
 use crate::control::Control;
 use crate::instance::Instance;
+use crate::log::Log;
 use crate::packet_thread::PacketThread;
 use crate::system::{self, Waited};
 use std::fs::File;
@@ -11,70 +12,74 @@ use std::time::Instant;
 /// The director at its end, with the name of the signal that ended it; an error means that the device is gone.
 pub type Ended = (Instance, Result<&'static str, String>);
 
-/// Serves until a signal comes or the device goes.
-pub fn serve(
-    instance: Instance,
-    packets: &mut PacketThread,
-    control: &mut Control,
-    signals: &File,
-) -> Ended {
-    let mut files = Vec::new();
-    let mut next_tick = Instant::now();
-    packets.lend(instance);
-    loop {
-        let waited = wait(&mut files, packets, control, signals, next_tick);
+/// What serves, beside the director itself.
+#[derive(Debug)]
+pub struct Around {
+    /// The thread that serves the packets.
+    pub packets: PacketThread,
+    /// The clients of the control socket.
+    pub control: Control,
+    /// Where the signals are read.
+    pub signals: File,
+    /// The log.
+    pub log: Log,
+}
+
+impl Around {
+    /// Serves until a signal comes or the device goes.
+    pub fn serve(&mut self, mut instance: Instance) -> Ended {
+        let mut files = Vec::new();
+        // first a tick: no packet is served at the clock of long ago
+        let mut next_tick = self.turn(&mut instance);
+        self.packets.lend(instance);
+        loop {
+            let waited = self.wait(&mut files, next_tick);
+            let now = Instant::now();
+            self.control.exchange(&files[2..], now);
+            let has_ended = waited.is_err() || files[..2].iter().any(Waited::is_ready);
+            if !has_ended && now < next_tick && !self.control.needs_director(now) {
+                continue;
+            }
+            let (mut instance, served) = self.packets.take_back();
+            if let Err(complaint) = waited.and(served) {
+                return (instance, Err(complaint));
+            }
+            if let Some(name) = self.signal_name() {
+                return (instance, Ok(name));
+            }
+            next_tick = self.turn(&mut instance);
+            self.packets.lend(instance);
+        }
+    }
+
+    /// Waits until there is something to do: `files` are then the packet thread's end, the signals, and those of the control
+    /// socket.
+    fn wait(&self, files: &mut Vec<Waited>, next_tick: Instant) -> Result<(), String> {
         let now = Instant::now();
-        control.exchange(&files[2..], now);
-        let has_ended = waited.is_err() || files[..2].iter().any(Waited::is_ready);
-        if !has_ended && now < next_tick && !control.needs_director(now) {
-            continue;
-        }
-        let (mut instance, served) = packets.take_back();
-        if let Err(complaint) = waited.and(served) {
-            return (instance, Err(complaint));
-        }
-        if let Some(name) = signal_name(&files[1], signals) {
-            return (instance, Ok(name));
-        }
-        next_tick = turn(&mut instance, control);
-        packets.lend(instance);
+        files.clear();
+        files.extend([self.packets.waited(), Waited::new(&self.signals, true, false)]);
+        self.control.add_waited(files, now);
+        let tick = next_tick.saturating_duration_since(now);
+        let time = self.control.time_left(now).map_or(tick, |left| left.min(tick));
+        system::wait(files, time).map_err(|error| format!("waiting for clients failed: {error}"))
     }
-}
 
-/// Waits until there is something to do: `files` are then the packet thread's end, the signals, and those of the control
-/// socket.
-fn wait(
-    files: &mut Vec<Waited>,
-    packets: &PacketThread,
-    control: &Control,
-    signals: &File,
-    next_tick: Instant,
-) -> Result<(), String> {
-    let now = Instant::now();
-    files.clear();
-    files.extend([packets.waited(), Waited::new(signals, true, false)]);
-    control.add_waited(files, now);
-    let tick = next_tick.saturating_duration_since(now);
-    let time = control.time_left(now).map_or(tick, |left| left.min(tick));
-    system::wait(files, time).map_err(|error| format!("waiting for clients failed: {error}"))
-}
-
-/// What is done between two calls of the packet thread; tells when the clock shows another second.
-fn turn(instance: &mut Instance, control: &mut Control) -> Instant {
-    let now = Instant::now();
-    // first the tick: what a command tells is true at the clock that it tells
-    instance.tick(now);
-    control.answer(instance, now);
-    now + instance.until_tick(now)
-}
-
-fn signal_name(file: &Waited, mut signals: &File) -> Option<&'static str> {
-    let mut information = [0; 128];
-    if !file.is_ready() || signals.read(&mut information).is_err() {
-        return None;
+    /// What is done between two calls of the packet thread; tells when the clock shows another second.
+    fn turn(&mut self, instance: &mut Instance) -> Instant {
+        let (now, since_boot) = (Instant::now(), system::since_boot());
+        // first the tick: what a command tells is true at the clock that it tells
+        instance.tick(since_boot);
+        self.control.answer(instance, &mut self.log, now);
+        now + instance.until_tick(since_boot)
     }
-    match i32::from_ne_bytes([information[0], information[1], information[2], information[3]]) {
-        system::SIGINT => Some("SIGINT"),
-        _ => Some("SIGTERM"),
+
+    /// The signal that has come, if one has.
+    fn signal_name(&self) -> Option<&'static str> {
+        let mut information = [0; 128];
+        (&self.signals).read_exact(&mut information).ok()?;
+        match i32::from_ne_bytes([information[0], information[1], information[2], information[3]]) {
+            system::SIGINT => Some("SIGINT"),
+            _ => Some("SIGTERM"),
+        }
     }
 }

@@ -7,8 +7,9 @@ use live::config::{setup, words};
 use live::control::socket::Socket;
 use live::control::Control;
 use live::instance::Instance;
+use live::log::Log;
 use live::packet_thread::PacketThread;
-use live::serve::serve;
+use live::serve::Around;
 use live::system;
 use live::tun::Tun;
 use nidhaaguf::Director;
@@ -35,11 +36,11 @@ fn main() -> ExitCode {
     match done {
         Ok(()) => ExitCode::SUCCESS,
         Err(Failure::Wrong(complaint)) => {
-            log(&complaint);
+            Log::default().error(&complaint);
             ExitCode::from(2)
         }
         Err(Failure::Failed(complaint)) => {
-            log(&complaint);
+            Log::default().error(&complaint);
             ExitCode::FAILURE
         }
     }
@@ -52,30 +53,36 @@ fn run(flags: Flags) -> Result<(), Failure> {
     if check {
         return say("configuration is good");
     }
+    let mut log = Log::default();
     if speed != 1 {
-        log(&format!("for drills only: the clock runs {speed} times as fast (--clock-speed)"));
+        log.warning(&format!(
+            "for drills only: the clock runs {speed} times as fast (--clock-speed)"
+        ));
     }
-    start(&config, director, speed)
+    start(&config, director, speed, log)
 }
 
 /// Opens all there is to open before anything is served.
-fn start(config: &Config, director: Director, speed: u32) -> Result<(), Failure> {
+fn start(config: &Config, director: Director, speed: u32, mut log: Log) -> Result<(), Failure> {
     let signals = system::signals_as_file()
         .map_err(|error| Failure::Failed(format!("signals can't be taken: {error}")))?;
     let name = &config.device.value;
     let device = Tun::open(name).map_err(Failure::Failed)?;
     let socket = Socket::open(&config.socket.value).map_err(Failure::Failed)?;
-    let now = Instant::now();
-    let mut control = Control::new(socket, now);
+    let control = Control::new(socket, Instant::now());
     // after the signals were taken: so none of them goes to this thread
-    let mut packets = PacketThread::start(device, name).map_err(Failure::Failed)?;
-    let instance = Instance::new(config.settings(), director, Clock::new(now, speed));
-    say(&ready_line(config))?;
-    let (instance, ended) = serve(instance, &mut packets, &mut control, &signals);
+    let packets = PacketThread::start(device, name).map_err(Failure::Failed)?;
+    let clock = Clock::new(system::since_boot(), speed);
+    let instance = Instance::new(config.settings(), director, clock);
+    if let Err(Failure::Failed(complaint)) = say(&ready_line(config)) {
+        log.warning(&complaint);
+    }
+    let mut around = Around { packets, control, signals, log };
+    let (instance, ended) = around.serve(instance);
     let counts = format!("clock {}; {}", instance.director().clock(), instance.counters());
     match ended {
         Ok(signal) => {
-            log(&format!("ended by {signal}; {counts}"));
+            around.log.notice(&format!("ended by {signal}; {counts}"));
             Ok(())
         }
         Err(complaint) => Err(Failure::Failed(format!("{complaint}; {counts}"))),
@@ -100,9 +107,4 @@ fn say(line: &str) -> Result<(), Failure> {
     writeln!(out, "{line}")
         .and_then(|()| out.flush())
         .map_err(|error| Failure::Failed(format!("standard output can't be written: {error}")))
-}
-
-fn log(line: &str) {
-    // a log that nobody takes must not end the director
-    let _ = writeln!(io::stderr(), "nidhaagufd: {line}");
 }

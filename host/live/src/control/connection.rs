@@ -28,6 +28,7 @@ enum Stage {
 #[derive(Debug)]
 pub struct Connection {
     stream: UnixStream,
+    user: u32,
     stage: Stage,
     input: Vec<u8>,
     input_ended: bool,
@@ -36,16 +37,22 @@ pub struct Connection {
 }
 
 impl Connection {
-    /// A client that has connected now, by a stream that doesn't block.
-    pub fn new(stream: UnixStream, now: Instant) -> Connection {
+    /// A client of that user that has connected now, by a stream that doesn't block.
+    pub fn new(stream: UnixStream, user: u32, now: Instant) -> Connection {
         Connection {
             stream,
+            user,
             stage: Stage::Asking,
             input: Vec::new(),
             input_ended: false,
             output: Vec::new(),
             deadline: now + PATIENCE,
         }
+    }
+
+    /// Whose it is.
+    pub fn user(&self) -> u32 {
+        self.user
     }
 
     /// What to wait for.

@@ -8,6 +8,7 @@ pub mod socket;
 pub mod status;
 
 use crate::instance::Instance;
+use crate::log::Log;
 use crate::system::Waited;
 use commands::Command;
 use connection::Connection;
@@ -80,8 +81,8 @@ impl Control {
     }
 
     /// Answers a command, and shows the table to the watchers.
-    pub fn answer(&mut self, instance: &mut Instance, now: Instant) {
-        self.answer_one(instance, now);
+    pub fn answer(&mut self, instance: &mut Instance, log: &mut Log, now: Instant) {
+        self.answer_one(instance, log, now);
         self.show_table(instance, now);
         self.close(now);
     }
@@ -104,7 +105,7 @@ impl Control {
     }
 
     /// One command a turn, the oldest client's first: packets wait no longer than for that.
-    fn answer_one(&mut self, instance: &mut Instance, now: Instant) {
+    fn answer_one(&mut self, instance: &mut Instance, log: &mut Log, now: Instant) {
         let watchers = self.connections.iter().filter(|client| client.is_watching()).count();
         let Some(client) = self.connections.iter_mut().find(|client| client.has_command()) else {
             return;
@@ -115,7 +116,10 @@ impl Control {
                 client.watch(&format!("ok\n{text}"), instance.changes(), &shown, now);
             }
             Ok((_, text)) => client.answer(&format!("ok\n{text}"), now),
-            Err(complaint) => client.answer(&format!("error: {complaint}\n"), now),
+            Err(complaint) => {
+                log.warning(&format!("refused a command of user {}: {complaint}", client.user()));
+                client.answer(&format!("error: {complaint}\n"), now);
+            }
         }
     }
 
@@ -143,7 +147,9 @@ impl Control {
                 return;
             }
             match self.socket.accept() {
-                Ok(Some(stream)) => self.connections.push(Connection::new(stream, now)),
+                Ok(Some((stream, user))) => {
+                    self.connections.push(Connection::new(stream, user, now))
+                }
                 Ok(None) => {}
                 Err(error) if error.kind() == ErrorKind::WouldBlock => return,
                 // as when no more files can be opened: trying again at once would only cost time

@@ -38,8 +38,8 @@ impl Socket {
         Ok(Socket { listener, path: path.to_path_buf(), identity })
     }
 
-    /// The next connection, or None if its user may not command the director. It never waits.
-    pub fn accept(&self) -> io::Result<Option<UnixStream>> {
+    /// The next connection with its user, or None if that one may not command the director. It never waits.
+    pub fn accept(&self) -> io::Result<Option<(UnixStream, u32)>> {
         let (mut stream, _) = self.listener.accept()?;
         stream.set_nonblocking(true)?;
         let (user, own) = (system::peer_user(&stream)?, system::own_user());
@@ -51,7 +51,7 @@ impl Socket {
             return Ok(None);
         }
         system::limit_send_buffer(&stream, SEND_BUFFER)?;
-        Ok(Some(stream))
+        Ok(Some((stream, user)))
     }
 }
 

@@ -23,6 +23,7 @@ const TUNSETIFF: u64 = 0x4004_54CA;
 const TUN_PLAIN: i16 = 0x0001 | 0x1000;
 const SIG_BLOCK: i32 = 0;
 const SFD_NONBLOCK_CLOEXEC: i32 = 0o4000 | 0o2_000_000;
+const CLOCK_BOOTTIME: i32 = 7;
 const SOL_SOCKET: i32 = 1;
 const SO_SNDBUF: i32 = 7;
 const SO_PEERCRED: i32 = 17;
@@ -57,6 +58,14 @@ struct Credentials {
     group: u32,
 }
 
+/// C's `struct timespec`.
+#[repr(C)]
+#[derive(Default)]
+struct TimeSpec {
+    seconds: i64,
+    nanoseconds: i64,
+}
+
 /// C's `struct pollfd`: a file to wait for.
 #[repr(C)]
 #[derive(Clone, Copy, Debug)]
@@ -87,6 +96,7 @@ extern "C" {
     ) -> i32;
     fn setsockopt(descriptor: i32, level: i32, name: i32, value: *const c_void, length: u32)
         -> i32;
+    fn clock_gettime(clock: i32, time: *mut TimeSpec) -> i32;
     fn umask(mask: u32) -> u32;
     fn geteuid() -> u32;
 }
@@ -193,6 +203,15 @@ pub fn with_umask<T>(mask: u32, make: impl FnOnce() -> T) -> T {
     // SAFETY: as above.
     unsafe { umask(before) };
     made
+}
+
+/// The time since the machine's start, in which it was suspended included.
+pub fn since_boot() -> Duration {
+    let mut time = TimeSpec::default();
+    // SAFETY: the time is a whole timespec that lives through the call.
+    let read = done(unsafe { clock_gettime(CLOCK_BOOTTIME, &mut time) });
+    read.expect("Linux has this clock");
+    Duration::new(time.seconds as u64, time.nanoseconds as u32)
 }
 
 /// The user that this process acts as.

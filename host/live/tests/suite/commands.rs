@@ -3,7 +3,6 @@
 use crate::support::*;
 use live::control::commands::Command;
 use live::instance::Instance;
-use std::time::Instant;
 
 fn read(line: &str) -> Result<Command, String> {
     Command::read(&line.split_whitespace().collect::<Vec<_>>())
@@ -52,7 +51,7 @@ fn wrong_commands_are_told_what_was_expected() {
 
 #[test]
 fn weights_and_counts() {
-    let mut instance = instance(Instant::now());
+    let mut instance = instance();
     assert_eq!(answer(&mut instance, "count 0").unwrap(), "0\n");
     assert!(pass(&mut instance, &syn(1)).is_some());
     assert_eq!(answer(&mut instance, "count 0").unwrap(), "1\n");
@@ -67,7 +66,7 @@ fn weights_and_counts() {
 
 #[test]
 fn the_library_refuses_servers_that_are_not_there() {
-    let mut instance = instance(Instant::now());
+    let mut instance = instance();
     let words = "there is no server of that number (5): the servers are 0 to 2, got 3";
     for line in ["count 3", "drain 3", "weight 3 1"] {
         assert_eq!(answer(&mut instance, line), Err(words.to_string()), "{line}");

@@ -9,7 +9,7 @@ use std::time::{Duration, Instant};
 fn pair(now: Instant) -> (UnixStream, Connection) {
     let (client, server) = UnixStream::pair().unwrap();
     server.set_nonblocking(true).unwrap();
-    (client, Connection::new(server, now))
+    (client, Connection::new(server, 0, now))
 }
 
 #[test]

@@ -7,7 +7,7 @@ use nidhaaguf::Way;
 use std::fs::OpenOptions;
 use std::os::unix::net::UnixDatagram;
 use std::sync::mpsc;
-use std::time::{Duration, Instant};
+use std::time::Duration;
 
 /// Long enough for a busy machine; nothing waits so long where all is well.
 const PATIENCE: Duration = Duration::from_secs(30);
@@ -37,7 +37,7 @@ fn thread_on_pair() -> (PacketThread, UnixDatagram) {
 fn a_signal_before_the_read_is_not_the_last() {
     in_time(|| {
         let (mut packets, _link) = thread_on_pair();
-        let mut instance = instance(Instant::now());
+        let mut instance = instance();
         for _ in 0..1_000 {
             packets.lend(instance);
             let (back, served) = packets.take_back();
@@ -57,7 +57,7 @@ fn packets_are_served_before_and_after() {
             link.send(&syn(port)).unwrap();
             assert_eq!(link.recv(&mut [0; 100]).unwrap(), syn(port).len());
         };
-        packets.lend(instance(Instant::now()));
+        packets.lend(instance());
         for port in 1..=20 {
             must_serve(port);
             let (instance, served) = packets.take_back();
@@ -76,7 +76,7 @@ fn a_flood_does_not_keep_the_director() {
     in_time(|| {
         let device = OpenOptions::new().read(true).write(true).open("/dev/zero").unwrap();
         let mut packets = PacketThread::start(device, "zero").unwrap();
-        let mut instance = instance(Instant::now());
+        let mut instance = instance();
         let mut before = 0;
         for _ in 0..20 {
             packets.lend(instance);
@@ -94,7 +94,7 @@ fn a_device_that_is_gone_ends_it() {
     in_time(|| {
         let device = OpenOptions::new().write(true).open("/dev/null").unwrap();
         let mut packets = PacketThread::start(device, "null").unwrap();
-        packets.lend(instance(Instant::now()));
+        packets.lend(instance());
         let mut end = [packets.waited()];
         system::wait(&mut end, PATIENCE).unwrap();
         assert!(end[0].is_ready());
@@ -113,7 +113,7 @@ fn a_device_that_is_gone_ends_it() {
 fn a_thread_that_serves_has_not_ended() {
     in_time(|| {
         let (mut packets, _link) = thread_on_pair();
-        packets.lend(instance(Instant::now()));
+        packets.lend(instance());
         let mut end = [packets.waited()];
         system::wait(&mut end, Duration::from_millis(20)).unwrap();
         assert!(!end[0].is_ready());

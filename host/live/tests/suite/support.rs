@@ -7,7 +7,7 @@ use live::config::Config;
 use live::instance::Instance;
 use reference::packets::{self, End, SYN};
 use std::os::unix::net::UnixDatagram;
-use std::time::Instant;
+use std::time::Duration;
 
 pub const CONFIG: &str = "\
 # the service
@@ -21,10 +21,11 @@ server 10.30.0.5:6432 weight 20
 pub const VIRTUAL: End = (0xC000_020A, 5432);
 pub const SERVER: End = (0x0A01_0005, 6432);
 
-pub fn instance(start: Instant) -> Instance {
+/// Its clock shows 0 at time zero.
+pub fn instance() -> Instance {
     let config = Config::read(CONFIG, "test.conf", Flags::default()).unwrap();
     let director = setup::set_up(&config).unwrap();
-    Instance::new(config.settings(), director, Clock::new(start, 1))
+    Instance::new(config.settings(), director, Clock::new(Duration::ZERO, 1))
 }
 
 /// A SYN from a client that is told by its port.

@@ -4,17 +4,16 @@ use crate::support::*;
 use live::control::{metrics, status};
 use live::instance::Instance;
 use std::os::unix::net::UnixDatagram;
-use std::time::{Duration, Instant};
+use std::time::Duration;
 
 #[test]
 fn the_status_is_a_table() {
-    let start = Instant::now();
-    let mut instance = instance(start);
+    let mut instance = instance();
     for port in 1..=7 {
         assert!(pass(&mut instance, &syn(port)).is_some());
     }
     instance.set_weight(1, 0).unwrap();
-    instance.tick(start + Duration::from_secs(12));
+    instance.tick(Duration::from_secs(12));
     let lines = "\
 number  address         weight  connections  state
 0       10.1.0.5:6432   1       3            in service
@@ -24,7 +23,7 @@ number  address         weight  connections  state
     let summary = "service 192.0.2.10:5432 tcp, least-connection, 7 of 4096 slots used";
     assert_eq!(status::text(&instance), format!("{summary}, clock 12\n{lines}"));
     let before = status::timeless(&instance);
-    instance.tick(start + Duration::from_secs(13));
+    instance.tick(Duration::from_secs(13));
     assert_eq!(status::timeless(&instance), before);
     instance.set_weight(1, 1).unwrap();
     assert_ne!(status::timeless(&instance), before);
@@ -40,8 +39,7 @@ fn states() {
 
 #[test]
 fn metrics_tell_the_counts() {
-    let start = Instant::now();
-    let mut instance = instance(start);
+    let mut instance = instance();
     for port in [1, 2, 3, 1] {
         assert!(pass(&mut instance, &syn(port)).is_some());
     }
@@ -50,7 +48,7 @@ fn metrics_tell_the_counts() {
     }
     instance.set_weight(2, 0).unwrap();
     fail_to_write(&mut instance);
-    instance.tick(start + Duration::from_secs(100));
+    instance.tick(Duration::from_secs(100));
     let text = metrics::text(&instance);
     for line in [
         "nidhaaguf_connections{server=\"0\",address=\"10.1.0.5:6432\"} 1",
@@ -68,7 +66,7 @@ fn metrics_tell_the_counts() {
     ] {
         assert!(text.lines().any(|found| found == line), "{line}\nis missing in\n{text}");
     }
-    instance.tick(start + Duration::from_secs(900));
+    instance.tick(Duration::from_secs(900));
     assert!(metrics::text(&instance).contains("\nnidhaaguf_idle_removed_total 3\n"));
 }
 
@@ -83,7 +81,7 @@ fn fail_to_write(instance: &mut Instance) {
 /// Each metric has its HELP and TYPE once, before its samples, and each sample is a name, labels and a number.
 #[test]
 fn metrics_are_in_the_text_form() {
-    let text = metrics::text(&instance(Instant::now()));
+    let text = metrics::text(&instance());
     assert!(text.ends_with('\n') && text.is_ascii());
     let mut declared = Vec::new();
     for line in text.lines() {
