@@ -70,6 +70,7 @@ impl Around {
         // first the tick: what a command tells is true at the clock that it tells
         instance.tick(since_boot);
         self.control.answer(instance, &mut self.log, now);
+        self.log.look(instance);
         now + instance.until_tick(since_boot)
     }
 

@@ -7,6 +7,7 @@ use live::config::{setup, words};
 use live::control::socket::Socket;
 use live::control::Control;
 use live::instance::Instance;
+use live::log::position::Position;
 use live::log::Log;
 use live::packet_thread::PacketThread;
 use live::serve::Around;
@@ -74,6 +75,7 @@ fn start(config: &Config, director: Director, speed: u32, mut log: Log) -> Resul
     let packets = PacketThread::start(device, name).map_err(Failure::Failed)?;
     let clock = Clock::new(system::since_boot(), speed);
     let instance = Instance::new(config.settings(), director, clock);
+    log.go_on(Position::at_start(&instance));
     if let Err(Failure::Failed(complaint)) = say(&ready_line(config)) {
         log.warning(&complaint);
     }
