@@ -11,7 +11,7 @@ pub const CHANGES: [(Change, &str); 3] =
     [(Change::Opened, "opened"), (Change::Kept, "kept"), (Change::Ended, "ended")];
 
 /// Counts since the start.
-#[derive(Clone, Debug, Default)]
+#[derive(Clone, Debug, Default, PartialEq, Eq)]
 pub struct Counters {
     /// The library's answers to packets.
     pub packets: nidhaaguf::Counters,

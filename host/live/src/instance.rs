@@ -22,6 +22,21 @@ impl Instance {
         Instance { settings, director, clock, counters: Counters::default(), weights_set: 0 }
     }
 
+    /// The same director, whose counts go on from these.
+    pub fn with_counts(self, counters: Counters, weights_set: u64) -> Instance {
+        Instance { counters, weights_set, ..self }
+    }
+
+    /// Its clock.
+    pub fn clock(&self) -> Clock {
+        self.clock
+    }
+
+    /// How often weights were set.
+    pub fn weights_set(&self) -> u64 {
+        self.weights_set
+    }
+
     /// What it was set up with: the weights may have changed since.
     pub fn settings(&self) -> &Settings {
         &self.settings

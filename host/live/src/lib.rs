@@ -11,10 +11,12 @@ pub mod clock;
 pub mod config;
 pub mod control;
 pub mod counters;
+pub mod handover;
 pub mod instance;
 pub mod log;
 pub mod packet_thread;
 pub mod serve;
+pub mod start;
 #[allow(unsafe_code)]
 pub mod system;
 pub mod tun;

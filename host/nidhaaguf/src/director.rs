@@ -44,6 +44,39 @@ impl Director {
         Ok(director)
     }
 
+    /// What passes from call to call: the state, and the words of the connection table. Handed to
+    /// [`resume`](Director::resume), by this process or the next, they are the same director again.
+    pub fn parts(&self) -> (&State, &[u32]) {
+        (&self.state, &self.row)
+    }
+
+    /// The director that has such parts.
+    ///
+    /// Refused: [`Unsound`](Refusal::Unsound), if no director can have them: its counts wouldn't be those of its table.
+    ///
+    /// ```
+    /// use nidhaaguf::{Director, Protocol, Refusal, Scheduler, Settings};
+    ///
+    /// let settings = Settings::new("192.0.2.10:53".parse()?, Protocol::Udp, Scheduler::RoundRobin)
+    ///     .server("10.1.0.5:53".parse()?, 1);
+    /// let director = Director::set_up(&settings, 16)?;
+    /// let (mut state, row) = (*director.parts().0, director.parts().1.to_vec());
+    /// assert_eq!(Director::resume(state, row.clone()), Ok(director));
+    /// state.servers[0].count = 1; // of an empty table
+    /// assert_eq!(Director::resume(state, row), Err(Refusal::Unsound));
+    /// # Ok::<(), Box<dyn std::error::Error>>(())
+    /// ```
+    pub fn resume(state: State, row: Vec<u32>) -> Result<Director, Refusal> {
+        let director = Director { state, row };
+        // every call judges the parts first, and this one changes nothing
+        director.count(0).map(|_| director)
+    }
+
+    /// What it was set up with, and the weights that the servers have now.
+    pub fn settings(&self) -> Settings {
+        Settings::of_state(&self.state)
+    }
+
     /// Sets a server's weight. Its connections stay with it, also at weight 0.
     ///
     /// Refused: [`NoServer`](Refusal::NoServer).

@@ -28,6 +28,16 @@ impl Counters {
         Counters([0; COUNTERS])
     }
 
+    /// All of them, each way: opened, kept, ended, and the refusals by number.
+    pub fn words(&self) -> &[u64; COUNTERS] {
+        &self.0
+    }
+
+    /// Counters that go on from these.
+    pub fn of_words(words: [u64; COUNTERS]) -> Counters {
+        Counters(words)
+    }
+
     /// Accepted packets that did this to their connection.
     pub fn accepted(&self, way: Way, change: Change) -> u64 {
         self.of(way)[change as usize]

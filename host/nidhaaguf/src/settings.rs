@@ -23,6 +23,16 @@ pub enum Scheduler {
     WeightedLeastConnection = 4,
 }
 
+impl Scheduler {
+    /// All of them, the lowest number first.
+    pub const ALL: [Scheduler; 4] = [
+        Scheduler::RoundRobin,
+        Scheduler::WeightedRoundRobin,
+        Scheduler::LeastConnection,
+        Scheduler::WeightedLeastConnection,
+    ];
+}
+
 /// A server: where it is, and its weight. Weight 0 gets no new connections.
 #[derive(Clone, Copy, Debug, PartialEq, Eq, Hash)]
 pub struct Server {
@@ -60,6 +70,20 @@ impl Settings {
     pub fn server(mut self, at: SocketAddrV4, weight: u16) -> Settings {
         self.servers.push(Server { at, weight });
         self
+    }
+
+    /// The settings of a state, with the weights that it has now; for a sound one, whose numbers are those of the enums.
+    pub(crate) fn of_state(state: &raw::State) -> Settings {
+        let at = |address: u32, port| SocketAddrV4::new(address.into(), port);
+        let raw::Service { address, port, protocol, scheduler, servers } = state.service;
+        let protocol = if protocol == Protocol::Tcp as u8 { Protocol::Tcp } else { Protocol::Udp };
+        let of_number = |of: &Scheduler| *of as u8 == scheduler;
+        let scheduler = Scheduler::ALL.into_iter().find(of_number).unwrap_or(Scheduler::RoundRobin);
+        let servers = state.servers.iter().take(servers as usize);
+        let servers = servers
+            .map(|server| Server { at: at(server.address, server.port), weight: server.weight })
+            .collect();
+        Settings { service: at(address, port), protocol, scheduler, servers }
     }
 
     pub(crate) fn raw_service(&self) -> raw::Service {

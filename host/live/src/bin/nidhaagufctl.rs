@@ -58,8 +58,31 @@ fn help() -> String {
     format!("{usage} {DEFAULT_SOCKET} unless told\n\n{}", commands::HELP)
 }
 
-/// Says the command's line and prints what comes back.
+/// How far an answer came.
+#[derive(PartialEq, Eq)]
+enum Answer {
+    Whole,
+    /// A watch, which has no end of its own.
+    Watched,
+    /// The director went away before it had answered.
+    Missing,
+}
+
+/// Says the command's line and prints what comes back. Where the director goes away, another process may have taken over: it is
+/// asked again there.
 fn ask(path: &Path, line: &str, watch: bool) -> Result<(), Failure> {
+    let mut missing = 0;
+    while missing < 2 {
+        match ask_once(path, line, watch)? {
+            Answer::Whole => return Ok(()),
+            Answer::Watched => missing = 0,
+            Answer::Missing => missing += 1,
+        }
+    }
+    Err(Failure::Wrong(format!("the director at {} is gone", path.display())))
+}
+
+fn ask_once(path: &Path, line: &str, watch: bool) -> Result<Answer, Failure> {
     let mut stream = UnixStream::connect(path).map_err(|error| no_director(path, &error))?;
     let lost = |error: io::Error| no_director(path, &error);
     stream.set_read_timeout(Some(PATIENCE)).map_err(lost)?;
@@ -68,20 +91,20 @@ fn ask(path: &Path, line: &str, watch: bool) -> Result<(), Failure> {
     let _ = stream.write_all(format!("{line}\n").as_bytes());
     let mut answer = BufReader::new(stream);
     let mut first = String::new();
-    answer.read_line(&mut first).map_err(lost)?;
+    match answer.read_line(&mut first) {
+        Err(error) if error.kind() == ErrorKind::ConnectionReset => return Ok(Answer::Missing),
+        read => read.map_err(lost)?,
+    };
     match (first.trim_end(), first.strip_prefix("error: ")) {
         ("ok", _) => {}
         (_, Some(complaint)) => return Err(Failure::Refused(complaint.trim_end().into())),
-        _ => return Err(Failure::Wrong(format!("the director at {} is gone", path.display()))),
+        _ => return Ok(Answer::Missing),
     }
     if watch {
         answer.get_ref().set_read_timeout(None).map_err(lost)?;
     }
     copy_lines(&mut answer, path)?;
-    match watch {
-        true => Err(Failure::Wrong("the director has ended the watch".into())),
-        false => Ok(()),
-    }
+    Ok(if watch { Answer::Watched } else { Answer::Whole })
 }
 
 fn copy_lines(answer: &mut impl BufRead, path: &Path) -> Result<(), Failure> {

@@ -1,22 +1,16 @@
 //! The director's daemon: reads its configuration, opens its device and its control socket, and serves.
 
-use live::clock::Clock;
 use live::config::flags::{self, Flags, Request};
-use live::config::Config;
-use live::config::{setup, words};
-use live::control::socket::Socket;
-use live::control::Control;
-use live::instance::Instance;
-use live::log::position::Position;
+use live::config::{setup, words, Config};
+use live::handover::file;
+use live::handover::snapshot::Snapshot;
 use live::log::Log;
-use live::packet_thread::PacketThread;
-use live::serve::Around;
+use live::serve::{Around, End};
+use live::start::{self, Started};
 use live::system;
-use live::tun::Tun;
-use nidhaaguf::Director;
+use std::fs::File;
 use std::io::{self, Write};
 use std::process::ExitCode;
-use std::time::Instant;
 
 /// What ends the program early, and how.
 enum Failure {
@@ -28,67 +22,69 @@ enum Failure {
 
 fn main() -> ExitCode {
     let request = flags::read(std::env::args_os().skip(1));
+    let mut log = Log::default();
     let done = match request {
         Ok(Request::Help) => say(flags::HELP.trim_end()),
         Ok(Request::Version) => say(concat!("nidhaagufd ", env!("CARGO_PKG_VERSION"))),
-        Ok(Request::Run(flags)) => run(flags),
+        Ok(Request::Run(flags)) => run(flags, &mut log),
         Err(complaint) => Err(Failure::Wrong(complaint)),
     };
     match done {
         Ok(()) => ExitCode::SUCCESS,
         Err(Failure::Wrong(complaint)) => {
-            Log::default().error(&complaint);
+            log.error(&complaint);
             ExitCode::from(2)
         }
         Err(Failure::Failed(complaint)) => {
-            Log::default().error(&complaint);
+            log.error(&complaint);
             ExitCode::FAILURE
         }
     }
 }
 
-fn run(flags: Flags) -> Result<(), Failure> {
-    let (check, speed) = (flags.check, flags.clock_speed.unwrap_or(1));
+fn run(flags: Flags, log: &mut Log) -> Result<(), Failure> {
+    let (check, take_over, speed) = (flags.check, flags.take_over, flags.clock_speed.unwrap_or(1));
     let config = Config::load(flags).map_err(Failure::Wrong)?;
     let director = setup::set_up(&config).map_err(Failure::Wrong)?;
     if check {
         return say("configuration is good");
     }
-    let mut log = Log::default();
     if speed != 1 {
         log.warning(&format!(
             "for drills only: the clock runs {speed} times as fast (--clock-speed)"
         ));
     }
-    start(&config, director, speed, log)
-}
-
-/// Opens all there is to open before anything is served.
-fn start(config: &Config, director: Director, speed: u32, mut log: Log) -> Result<(), Failure> {
+    // before a thread is started: so no signal goes to another
     let signals = system::signals_as_file()
         .map_err(|error| Failure::Failed(format!("signals can't be taken: {error}")))?;
-    let name = &config.device.value;
-    let device = Tun::open(name).map_err(Failure::Failed)?;
-    let socket = Socket::open(&config.socket.value).map_err(Failure::Failed)?;
-    let control = Control::new(socket, Instant::now());
-    // after the signals were taken: so none of them goes to this thread
-    let packets = PacketThread::start(device, name).map_err(Failure::Failed)?;
-    let clock = Clock::new(system::since_boot(), speed);
-    let instance = Instance::new(config.settings(), director, clock);
-    log.go_on(Position::at_start(&instance));
-    if let Err(Failure::Failed(complaint)) = say(&ready_line(config)) {
-        log.warning(&complaint);
+    let started = match take_over {
+        true => start::take_over(&config, speed, log)
+            .map_err(|reason| format!("nothing was taken over: {reason}")),
+        false => start::start(&config, director, speed, log),
+    };
+    serve(&config, started.map_err(Failure::Failed)?, signals, log)
+}
+
+/// Serves to the end, and keeps what the next start needs.
+fn serve(config: &Config, started: Started, signals: File, log: &mut Log) -> Result<(), Failure> {
+    let Started { instance, packets, control, words } = started;
+    for line in words.into_iter().chain([ready_line(config)]) {
+        if let Err(Failure::Failed(complaint)) = say(&line) {
+            log.warning(&format!("the line {line:?} is lost: {complaint}"));
+        }
     }
     let mut around = Around { packets, control, signals, log };
     let (instance, ended) = around.serve(instance);
     let counts = format!("clock {}; {}", instance.director().clock(), instance.counters());
-    match ended {
-        Ok(signal) => {
-            around.log.notice(&format!("ended by {signal}; {counts}"));
-            Ok(())
-        }
+    let last = match ended {
+        Ok(End::HandedOver) => return Ok(()),
+        Ok(End::Signal(name)) => Ok(format!("ended by {name}; {counts}")),
         Err(complaint) => Err(Failure::Failed(format!("{complaint}; {counts}"))),
-    }
+    };
+    let (path, connections) = (&config.state.value, instance.director().used());
+    file::save(path, &Snapshot::of(&instance, around.log)).map_err(Failure::Failed)?;
+    around.log.notice(&format!("saved {connections} connections in {}", path.display()));
+    last.map(|line| around.log.notice(&line))
 }
 
 fn ready_line(config: &Config) -> String {
@@ -96,7 +92,7 @@ fn ready_line(config: &Config) -> String {
     format!(
         "ready: {service} {}, {}, {} servers, {} slots, device {}, control socket {}",
         words::protocol_name(protocol),
-        words::scheduler_name(config.scheduler),
+        words::scheduler_name(config.scheduler.value),
         config.servers.len(),
         config.slots.value,
         config.device.value,

@@ -10,7 +10,7 @@ use std::path::PathBuf;
 pub const HELP: &str = "\
 nidhaagufd: a packet director for one virtual address, between clients and servers
 
-usage: nidhaagufd --config FILE [flags]
+usage: nidhaagufd --config FILE [--take-over] [flags]
 
   --config FILE       the configuration, one setting to a line:
                         service 192.0.2.10:5432 tcp      (or udp)
@@ -20,6 +20,9 @@ usage: nidhaagufd --config FILE [flags]
                         slots 4096                       (optional: room for so many connections, 1 to 4096)
                         device nid0                      (optional: the TUN device to create)
                         socket /run/nidhaaguf.sock       (optional: the control socket of nidhaagufctl)
+                        state /run/nidhaaguf.sock.state  (optional: where the connections are kept from one start to the next)
+  --take-over         take the connections, the device and the control socket over from the nidhaagufd that serves there now;
+                      where that can't be, it serves on
   --device NAME       this device instead
   --socket PATH       this control socket instead
   --scheduler NAME    this scheduler instead
@@ -55,6 +58,8 @@ pub struct Flags {
     pub slots: Option<Given<usize>>,
     /// How many times as fast the clock runs.
     pub clock_speed: Option<u32>,
+    /// Take over from the director that serves there now.
+    pub take_over: bool,
     /// Only check the configuration.
     pub check: bool,
 }
@@ -71,6 +76,7 @@ pub fn read(arguments: impl Iterator<Item = OsString>) -> Result<Request, String
             "--help" | "-h" => return Ok(Request::Help),
             "--version" => return Ok(Request::Version),
             "--check" => flags.check = true,
+            "--take-over" => flags.take_over = true,
             _ => {
                 let value = words.next().transpose()?;
                 flags.take(&flag, value).map_err(|complaint| format!("{flag}: {complaint}"))?;

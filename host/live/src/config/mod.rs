@@ -1,5 +1,6 @@
 //! The configuration: a file of settings, one to a line, and flags that override some.
 
+pub mod compare;
 pub mod flags;
 pub mod given;
 pub mod setup;
@@ -27,13 +28,15 @@ pub struct Config {
     /// The virtual address and port, and the protocol.
     pub service: Given<(SocketAddrV4, Protocol)>,
     /// How servers are picked.
-    pub scheduler: Scheduler,
+    pub scheduler: Given<Scheduler>,
     /// Room for so many connections.
     pub slots: Given<usize>,
     /// The TUN device's name.
     pub device: Given<String>,
     /// The control socket's path.
     pub socket: Given<PathBuf>,
+    /// The state file's path.
+    pub state: Given<PathBuf>,
     /// The servers by number.
     pub servers: Vec<Given<Server>>,
 }
@@ -60,7 +63,7 @@ impl Config {
     pub fn settings(&self) -> Settings {
         let (service, protocol) = self.service.value;
         let servers = self.servers.iter().map(|server| server.value).collect();
-        Settings { service, protocol, scheduler: self.scheduler, servers }
+        Settings { service, protocol, scheduler: self.scheduler.value, servers }
     }
 }
 
@@ -82,6 +85,7 @@ struct Draft {
     slots: Option<Given<usize>>,
     device: Option<Given<String>>,
     socket: Option<Given<PathBuf>>,
+    state: Option<Given<PathBuf>>,
     servers: Vec<Given<Server>>,
 }
 
@@ -100,6 +104,7 @@ impl Draft {
             ("slots", [word]) => put(&mut self.slots, words::slots(word)?, place),
             ("device", [word]) => put(&mut self.device, word.to_string(), place),
             ("socket", [word]) => put(&mut self.socket, PathBuf::from(word), place),
+            ("state", [word]) => put(&mut self.state, PathBuf::from(word), place),
             ("server", [at, "weight", weight]) => {
                 let server = Server { at: words::address(at)?, weight: words::weight(weight)? };
                 self.servers.push(Given::new(server, place));
@@ -119,15 +124,25 @@ impl Draft {
         let slots = || Given::new(DEFAULT_SLOTS, &by_default("slots"));
         let device = || Given::new(DEFAULT_DEVICE.into(), &by_default("device"));
         let socket = || Given::new(DEFAULT_SOCKET.into(), &by_default("socket"));
+        let socket = flags.socket.or(self.socket).unwrap_or_else(socket);
+        let state = || Given::new(beside(&socket.value), &by_default("state"));
         Ok(Config {
+            state: self.state.unwrap_or_else(state),
             service: self.service.ok_or_else(|| missing("service"))?,
-            scheduler: scheduler.value,
+            scheduler,
             slots: flags.slots.or(self.slots).unwrap_or_else(slots),
             device: flags.device.or(self.device).unwrap_or_else(device),
-            socket: flags.socket.or(self.socket).unwrap_or_else(socket),
+            socket,
             servers: self.servers,
         })
     }
+}
+
+/// Where the state file is unless told otherwise.
+fn beside(socket: &Path) -> PathBuf {
+    let mut path = socket.as_os_str().to_owned();
+    path.push(".state");
+    path.into()
 }
 
 /// Each setting but the servers is given once.
@@ -144,7 +159,7 @@ fn put<T>(setting: &mut Option<Given<T>>, value: T, place: &str) -> Result<(), S
 fn expected(name: &str, setting: &str) -> String {
     match form(name) {
         "" => format!(
-            "expected a setting: service, scheduler, slots, device, socket or server, got {name:?}"
+            "expected a setting: service, scheduler, slots, device, socket, state or server, got {name:?}"
         ),
         form => format!("{form}, got {setting:?}"),
     }
@@ -158,6 +173,7 @@ fn form(name: &str) -> &'static str {
         "slots" => "expected `slots NUMBER`",
         "device" => "expected `device NAME`",
         "socket" => "expected `socket PATH`, without spaces",
+        "state" => "expected `state PATH`, without spaces",
         "server" => "expected `server ADDRESS:PORT weight NUMBER`",
         _ => "",
     }

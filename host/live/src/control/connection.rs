@@ -55,6 +55,16 @@ impl Connection {
         self.user
     }
 
+    /// What it is connected by: it says no more commands, but has something else to talk about.
+    pub fn into_stream(self) -> UnixStream {
+        self.stream
+    }
+
+    /// Whether it has its answer, and only has to read it.
+    pub fn is_answered(&self) -> bool {
+        self.stage == Stage::Answering
+    }
+
     /// What to wait for.
     pub fn waited(&self) -> Waited {
         let reads = match self.stage {

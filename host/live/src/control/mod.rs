@@ -7,13 +7,16 @@ pub mod metrics;
 pub mod socket;
 pub mod status;
 
+use crate::handover::request::Request;
 use crate::instance::Instance;
 use crate::log::Log;
-use crate::system::Waited;
+use crate::system::{self, Waited};
 use commands::Command;
 use connection::Connection;
 use socket::Socket;
 use std::io::ErrorKind;
+use std::os::fd::{AsFd, BorrowedFd};
+use std::os::unix::net::UnixStream;
 use std::time::{Duration, Instant};
 
 /// Clients at once; more wait in the kernel until one has gone.
@@ -80,11 +83,33 @@ impl Control {
         self.has_command() || self.table_time().is_some_and(|time| time <= now)
     }
 
-    /// Answers a command, and shows the table to the watchers.
-    pub fn answer(&mut self, instance: &mut Instance, log: &mut Log, now: Instant) {
-        self.answer_one(instance, log, now);
+    /// Answers a command, and shows the table to the watchers. Gives the stream of a process that is to take over.
+    pub fn answer(
+        &mut self,
+        instance: &mut Instance,
+        log: &mut Log,
+        now: Instant,
+    ) -> Option<UnixStream> {
+        let taker = self.answer_one(instance, log, now);
         self.show_table(instance, now);
         self.close(now);
+        taker
+    }
+
+    /// Leaves the socket to another process. Who has an answer may read it to its end; all others are closed, and may ask again
+    /// there.
+    pub fn leave(&mut self) {
+        self.socket.leave();
+        self.connections.retain(Connection::is_answered);
+        while !self.connections.is_empty() {
+            let mut files: Vec<_> = self.connections.iter().map(Connection::waited).collect();
+            let time = self.time_left(Instant::now()).unwrap_or_default();
+            if system::wait(&mut files, time).is_err() {
+                return;
+            }
+            self.connections.iter_mut().for_each(Connection::exchange);
+            self.close(Instant::now());
+        }
     }
 
     fn has_command(&self) -> bool {
@@ -105,22 +130,28 @@ impl Control {
     }
 
     /// One command a turn, the oldest client's first: packets wait no longer than for that.
-    fn answer_one(&mut self, instance: &mut Instance, log: &mut Log, now: Instant) {
+    fn answer_one(
+        &mut self,
+        instance: &mut Instance,
+        log: &mut Log,
+        now: Instant,
+    ) -> Option<UnixStream> {
         let watchers = self.connections.iter().filter(|client| client.is_watching()).count();
-        let Some(client) = self.connections.iter_mut().find(|client| client.has_command()) else {
-            return;
-        };
+        let place = self.connections.iter().position(Connection::has_command)?;
+        let client = &mut self.connections[place];
         match client.command().and_then(|line| obey(&line, instance, watchers)) {
-            Ok((Command::Watch, text)) => {
+            Ok(Obeyed::TakeOver) => return Some(self.connections.remove(place).into_stream()),
+            Ok(Obeyed::Watch(text)) => {
                 let shown = status::timeless(instance);
                 client.watch(&format!("ok\n{text}"), instance.changes(), &shown, now);
             }
-            Ok((_, text)) => client.answer(&format!("ok\n{text}"), now),
+            Ok(Obeyed::Answer(text)) => client.answer(&format!("ok\n{text}"), now),
             Err(complaint) => {
                 log.warning(&format!("refused a command of user {}: {complaint}", client.user()));
                 client.answer(&format!("error: {complaint}\n"), now);
             }
         }
+        None
     }
 
     /// Shows the table to the watchers that haven't seen it as it is now.
@@ -159,11 +190,28 @@ impl Control {
     }
 }
 
-fn obey(line: &str, instance: &mut Instance, watchers: usize) -> Result<(Command, String), String> {
+/// What a command comes to.
+enum Obeyed {
+    Answer(String),
+    Watch(String),
+    TakeOver,
+}
+
+fn obey(line: &str, instance: &mut Instance, watchers: usize) -> Result<Obeyed, String> {
     let words: Vec<&str> = line.split_whitespace().collect();
+    if let Some(request) = Request::read(&words) {
+        return request?.check(instance).map(|()| Obeyed::TakeOver);
+    }
     let command = Command::read(&words)?;
     if command == Command::Watch && watchers >= MOST_WATCHERS {
         return Err(format!("{watchers} clients watch already, and no more may"));
     }
-    command.answer(instance).map(|text| (command, text))
+    let text = command.answer(instance)?;
+    Ok(if command == Command::Watch { Obeyed::Watch(text) } else { Obeyed::Answer(text) })
+}
+
+impl AsFd for Control {
+    fn as_fd(&self) -> BorrowedFd<'_> {
+        self.socket.as_fd()
+    }
 }

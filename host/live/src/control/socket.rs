@@ -3,7 +3,7 @@
 use crate::system;
 use std::fs;
 use std::io::{self, ErrorKind, Write};
-use std::os::fd::{AsRawFd, RawFd};
+use std::os::fd::{AsFd, AsRawFd, BorrowedFd, RawFd};
 use std::os::unix::fs::{FileTypeExt, MetadataExt};
 use std::os::unix::net::{UnixListener, UnixStream};
 use std::path::{Path, PathBuf};
@@ -19,7 +19,8 @@ const SEND_BUFFER: i32 = 4_096;
 pub struct Socket {
     listener: UnixListener,
     path: PathBuf,
-    identity: (u64, u64),
+    /// What tells its file from another that later has its name; None where the file is no matter of this process.
+    identity: Option<(u64, u64)>,
 }
 
 impl Socket {
@@ -35,14 +36,25 @@ impl Socket {
         };
         let (listener, identity) =
             bound().map_err(|error: io::Error| complaint(&format!("it can't be made: {error}")))?;
-        Ok(Socket { listener, path: path.to_path_buf(), identity })
+        Ok(Socket { listener, path: path.to_path_buf(), identity: Some(identity) })
+    }
+
+    /// A socket at that path that another process has made, and leaves to this one.
+    pub fn adopt(listener: UnixListener, path: &Path) -> Socket {
+        let identity = identity(path).ok();
+        Socket { listener, path: path.to_path_buf(), identity }
+    }
+
+    /// Leaves the file to another process: it stays when this socket goes.
+    pub fn leave(&mut self) {
+        self.identity = None;
     }
 
     /// The next connection with its user, or None if that one may not command the director. It never waits.
     pub fn accept(&self) -> io::Result<Option<(UnixStream, u32)>> {
         let (mut stream, _) = self.listener.accept()?;
         stream.set_nonblocking(true)?;
-        let (user, own) = (system::peer_user(&stream)?, system::own_user());
+        let (user, own) = (system::peer(&stream)?.user, system::own_user());
         // the file's mode keeps others out already, as long as nobody changes it
         if user != own && user != 0 {
             let reply = format!("error: only user {own} and root may command this director\n");
@@ -74,17 +86,22 @@ fn remove_stale(path: &Path) -> Result<(), String> {
     }
 }
 
-/// What tells a file from another that later has its name.
 fn identity(path: &Path) -> io::Result<(u64, u64)> {
     fs::symlink_metadata(path).map(|found| (found.dev(), found.ino()))
 }
 
 impl Drop for Socket {
     fn drop(&mut self) {
-        if identity(&self.path).is_ok_and(|found| found == self.identity) {
+        if self.identity.is_some() && identity(&self.path).ok() == self.identity {
             // nothing more can be done about it at the end
             let _ = fs::remove_file(&self.path);
         }
+    }
+}
+
+impl AsFd for Socket {
+    fn as_fd(&self) -> BorrowedFd<'_> {
+        self.listener.as_fd()
     }
 }
 

@@ -1,10 +1,12 @@
 //! Linux calls that the standard library doesn't offer, and all the unsafe code of this crate.
 
+pub mod descriptors;
+
 use std::ffi::c_void;
 use std::fs::File;
 use std::io::{Error, ErrorKind, Result};
 use std::mem::size_of;
-use std::os::fd::{AsRawFd, FromRawFd, OwnedFd};
+use std::os::fd::{AsFd, AsRawFd, FromRawFd, OwnedFd};
 use std::os::unix::net::UnixStream;
 use std::os::unix::thread::{JoinHandleExt, RawPthread};
 use std::thread::JoinHandle;
@@ -19,6 +21,7 @@ pub const SIGTERM: i32 = 15;
 const SIGURG: i32 = 23;
 
 const TUNSETIFF: u64 = 0x4004_54CA;
+const TUNGETIFF: u64 = 0x8004_54D2;
 /// IFF_TUN: packets without a link header. IFF_NO_PI: nor the four bytes that TUN puts in front by default.
 const TUN_PLAIN: i16 = 0x0001 | 0x1000;
 const SIG_BLOCK: i32 = 0;
@@ -49,12 +52,14 @@ struct SignalAction {
     restorer: usize,
 }
 
-/// C's `struct ucred`.
+/// C's `struct ucred`: a process and whose it is.
 #[repr(C)]
-#[derive(Default)]
-struct Credentials {
-    process: i32,
-    user: u32,
+#[derive(Clone, Copy, Debug, Default)]
+pub struct Credentials {
+    /// Its number.
+    pub process: i32,
+    /// Its user.
+    pub user: u32,
     group: u32,
 }
 
@@ -111,6 +116,15 @@ pub fn set_interface(tun: &File, name: &str) -> Result<()> {
     }
     // SAFETY: the file is open, and the request reads and writes one ifreq, which lives through the call.
     done(unsafe { ioctl(tun.as_raw_fd(), TUNSETIFF, &mut request) })
+}
+
+/// The name of the TUN device that an open file is; an error where it is none.
+pub fn interface_name(tun: impl AsFd) -> Result<String> {
+    let mut request = InterfaceRequest { name: [0; 16], flags: 0, rest: [0; 22] };
+    // SAFETY: the file is open, and the request writes one ifreq, which lives through the call.
+    done(unsafe { ioctl(tun.as_fd().as_raw_fd(), TUNGETIFF, &mut request) })?;
+    let name = request.name.split(|&byte| byte == 0).next().unwrap_or_default();
+    Ok(String::from_utf8_lossy(name).into_owned())
 }
 
 impl Waited {
@@ -177,14 +191,14 @@ pub fn interrupt<T>(thread: &JoinHandle<T>) {
     unsafe { pthread_kill(thread.as_pthread_t(), SIGURG) };
 }
 
-/// The user of the process at the other end, as of its connecting.
-pub fn peer_user(stream: &UnixStream) -> Result<u32> {
+/// The process at the other end, as of its connecting or its listening.
+pub fn peer(stream: &UnixStream) -> Result<Credentials> {
     let mut peer = Credentials::default();
     let mut length = size_of::<Credentials>() as u32;
     let value = (&raw mut peer).cast();
     // SAFETY: the value is a whole ucred of the length told, and both live through the call.
     done(unsafe { getsockopt(stream.as_raw_fd(), SOL_SOCKET, SO_PEERCRED, value, &mut length) })?;
-    Ok(peer.user)
+    Ok(peer)
 }
 
 /// Limits the bytes that the kernel keeps for a peer that doesn't read.

@@ -1,0 +1,68 @@
+//! What the next process asks for over the control socket, before anything stops.
+
+use super::layout::LAYOUT;
+use crate::config::words;
+use crate::instance::Instance;
+use nidhaaguf::Protocol;
+use std::net::SocketAddrV4;
+
+const NAME: &str = "take-over";
+
+/// A request to hand the director over.
+#[derive(Clone, Copy, Debug, PartialEq, Eq)]
+pub struct Request {
+    /// The layout that the next process reads.
+    pub layout: u32,
+    /// The service that it is for.
+    pub service: SocketAddrV4,
+    /// The service's protocol.
+    pub protocol: Protocol,
+}
+
+impl Request {
+    /// For that service, by this program.
+    pub fn new((service, protocol): (SocketAddrV4, Protocol)) -> Request {
+        Request { layout: LAYOUT, service, protocol }
+    }
+
+    /// The command line that says it.
+    pub fn line(&self) -> String {
+        let Request { layout, service, protocol } = self;
+        format!("{NAME} {layout} {service} {}\n", words::protocol_name(*protocol))
+    }
+
+    /// Reads the words of a command; None where it is another command.
+    pub fn read(words: &[&str]) -> Option<Result<Request, String>> {
+        match words {
+            [NAME, layout, service, protocol] => Some(Request::of(layout, service, protocol)),
+            [NAME, ..] => Some(Err(format!("expected `{NAME} LAYOUT ADDRESS:PORT PROTOCOL`"))),
+            _ => None,
+        }
+    }
+
+    fn of(layout: &str, service: &str, protocol: &str) -> Result<Request, String> {
+        let layout = words::number(layout, "a layout's number")?;
+        let (service, protocol) = (words::address(service)?, words::protocol(protocol)?);
+        Ok(Request { layout, service, protocol })
+    }
+
+    /// Whether that director may be handed over so; an error says why not.
+    pub fn check(&self, instance: &Instance) -> Result<(), String> {
+        let settings = instance.settings();
+        let named = |service: SocketAddrV4, protocol| {
+            format!("{service} {}", words::protocol_name(protocol))
+        };
+        let asked = named(self.service, self.protocol);
+        let served = named(settings.service, settings.protocol);
+        if self.layout != LAYOUT {
+            return Err(format!(
+                "layout {} is asked for, and this program's is {LAYOUT}",
+                self.layout
+            ));
+        }
+        if asked != served {
+            return Err(format!("the service {asked} is asked for, and {served} is served here"));
+        }
+        Ok(())
+    }
+}
