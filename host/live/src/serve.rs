@@ -14,7 +14,7 @@ pub type Ended = (Instance, Result<&'static str, String>);
 
 /// What serves, beside the director itself.
 #[derive(Debug)]
-pub struct Around {
+pub struct Around<'a> {
     /// The thread that serves the packets.
     pub packets: PacketThread,
     /// The clients of the control socket.
@@ -22,10 +22,10 @@ pub struct Around {
     /// Where the signals are read.
     pub signals: File,
     /// The log.
-    pub log: Log,
+    pub log: &'a mut Log,
 }
 
-impl Around {
+impl Around<'_> {
     /// Serves until a signal comes or the device goes.
     pub fn serve(&mut self, mut instance: Instance) -> Ended {
         let mut files = Vec::new();
@@ -69,7 +69,7 @@ impl Around {
         let (now, since_boot) = (Instant::now(), system::since_boot());
         // first the tick: what a command tells is true at the clock that it tells
         instance.tick(since_boot);
-        self.control.answer(instance, &mut self.log, now);
+        self.control.answer(instance, self.log, now);
         self.log.look(instance);
         now + instance.until_tick(since_boot)
     }

@@ -28,33 +28,34 @@ enum Failure {
 
 fn main() -> ExitCode {
     let request = flags::read(std::env::args_os().skip(1));
+    let timed = matches!(&request, Ok(Request::Run(flags)) if flags.log_time);
+    let mut log = Log::on_standard_error(timed);
     let done = match request {
         Ok(Request::Help) => say(flags::HELP.trim_end()),
         Ok(Request::Version) => say(concat!("nidhaagufd ", env!("CARGO_PKG_VERSION"))),
-        Ok(Request::Run(flags)) => run(flags),
+        Ok(Request::Run(flags)) => run(flags, &mut log),
         Err(complaint) => Err(Failure::Wrong(complaint)),
     };
     match done {
         Ok(()) => ExitCode::SUCCESS,
         Err(Failure::Wrong(complaint)) => {
-            Log::default().error(&complaint);
+            log.error(&complaint);
             ExitCode::from(2)
         }
         Err(Failure::Failed(complaint)) => {
-            Log::default().error(&complaint);
+            log.error(&complaint);
             ExitCode::FAILURE
         }
     }
 }
 
-fn run(flags: Flags) -> Result<(), Failure> {
+fn run(flags: Flags, log: &mut Log) -> Result<(), Failure> {
     let (check, speed) = (flags.check, flags.clock_speed.unwrap_or(1));
     let config = Config::load(flags).map_err(Failure::Wrong)?;
     let director = setup::set_up(&config).map_err(Failure::Wrong)?;
     if check {
         return say("configuration is good");
     }
-    let mut log = Log::default();
     if speed != 1 {
         log.warning(&format!(
             "for drills only: the clock runs {speed} times as fast (--clock-speed)"
@@ -64,7 +65,7 @@ fn run(flags: Flags) -> Result<(), Failure> {
 }
 
 /// Opens all there is to open before anything is served.
-fn start(config: &Config, director: Director, speed: u32, mut log: Log) -> Result<(), Failure> {
+fn start(config: &Config, director: Director, speed: u32, log: &mut Log) -> Result<(), Failure> {
     let signals = system::signals_as_file()
         .map_err(|error| Failure::Failed(format!("signals can't be taken: {error}")))?;
     let name = &config.device.value;
@@ -77,7 +78,7 @@ fn start(config: &Config, director: Director, speed: u32, mut log: Log) -> Resul
     let instance = Instance::new(config.settings(), director, clock);
     log.go_on(Position::at_start(&instance));
     if let Err(Failure::Failed(complaint)) = say(&ready_line(config)) {
-        log.warning(&complaint);
+        log.warning(&format!("the ready line is lost: {complaint}"));
     }
     let mut around = Around { packets, control, signals, log };
     let (instance, ended) = around.serve(instance);

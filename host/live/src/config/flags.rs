@@ -25,6 +25,7 @@ usage: nidhaagufd --config FILE [flags]
   --scheduler NAME    this scheduler instead
   --slots N           so many slots instead
   --clock-speed N     the clock runs N times as fast, 1 to 1000; for drills only
+  --log-time          each line of the log with its time, as where no journal adds it
   --check             read the configuration, say whether it is good, and exit
   --help, --version
 ";
@@ -55,6 +56,8 @@ pub struct Flags {
     pub slots: Option<Given<usize>>,
     /// How many times as fast the clock runs.
     pub clock_speed: Option<u32>,
+    /// Each line of the log has its time.
+    pub log_time: bool,
     /// Only check the configuration.
     pub check: bool,
 }
@@ -71,6 +74,7 @@ pub fn read(arguments: impl Iterator<Item = OsString>) -> Result<Request, String
             "--help" | "-h" => return Ok(Request::Help),
             "--version" => return Ok(Request::Version),
             "--check" => flags.check = true,
+            "--log-time" => flags.log_time = true,
             _ => {
                 let value = words.next().transpose()?;
                 flags.take(&flag, value).map_err(|complaint| format!("{flag}: {complaint}"))?;

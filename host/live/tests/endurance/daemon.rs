@@ -122,7 +122,7 @@ impl Daemon {
         let (code, out, log) = self.wait();
         assert_eq!((code, out.as_str()), (Some(0), ""), "{log}");
         let last = log.lines().last().unwrap_or_default();
-        assert!(last.starts_with(&format!("nidhaagufd: ended by SIG{signal}; clock ")), "{log}");
+        assert!(last.starts_with(&format!("<5>nidhaagufd: ended by SIG{signal}; clock ")), "{log}");
         assert!(last.contains("; inbound ") && last.contains("; outbound "), "{log}");
         assert!(!PathBuf::from(socket).exists(), "the socket file is still there");
     }

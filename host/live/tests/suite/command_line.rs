@@ -33,7 +33,7 @@ fn a_bad_configuration_ends_the_daemon_with_its_line() {
     let (code, out, log) = daemon(&["--config", path]);
     assert_eq!((code, out.as_str()), (2, ""));
     assert!(
-        log.starts_with(&format!("nidhaagufd: {path} line 3: expected a scheduler: ")),
+        log.starts_with(&format!("<3>nidhaagufd: {path} line 3: expected a scheduler: ")),
         "{log}"
     );
     let (code, _, log) = daemon(&["--config", path, "--scheduler", "1", "--slots", "0"]);
@@ -49,10 +49,10 @@ fn check_says_whether_it_is_good() {
     assert_eq!(daemon(&["--config", path, "--check"]), good);
     let (code, out, log) = daemon(&["--check", "--config", path, "--slots", "4097"]);
     assert_eq!((code, out.as_str()), (2, ""));
-    assert!(log.starts_with("nidhaagufd: --slots: there must be"), "{log}");
+    assert!(log.starts_with("<3>nidhaagufd: --slots: there must be"), "{log}");
     let (code, _, log) = daemon(&["--check", "--config", "/nowhere/at.all"]);
     assert_eq!(code, 2);
-    assert!(log.starts_with("nidhaagufd: /nowhere/at.all: can't be opened: "), "{log}");
+    assert!(log.starts_with("<3>nidhaagufd: /nowhere/at.all: can't be opened: "), "{log}");
 }
 
 #[test]
