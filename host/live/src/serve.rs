@@ -4,13 +4,12 @@ use crate::control::Control;
 use crate::instance::Instance;
 use crate::log::Log;
 use crate::packet_thread::PacketThread;
+use crate::system::signals::{Meaning, Signal, Signals};
 use crate::system::{self, Waited};
-use std::fs::File;
-use std::io::Read;
 use std::time::Instant;
 
-/// The director at its end, with the name of the signal that ended it; an error means that the device is gone.
-pub type Ended = (Instance, Result<&'static str, String>);
+/// The director at its end, with the signal that ended it; an error means that the device is gone.
+pub type Ended = (Instance, Result<Signal, String>);
 
 /// What serves, beside the director itself.
 #[derive(Debug)]
@@ -20,7 +19,7 @@ pub struct Around<'a> {
     /// The clients of the control socket.
     pub control: Control,
     /// Where the signals are read.
-    pub signals: File,
+    pub signals: Signals,
     /// The log.
     pub log: &'a mut Log,
 }
@@ -36,16 +35,17 @@ impl Around<'_> {
             let waited = self.wait(&mut files, next_tick);
             let now = Instant::now();
             self.control.exchange(&files[2..], now);
-            let has_ended = waited.is_err() || files[..2].iter().any(Waited::is_ready);
-            if !has_ended && now < next_tick && !self.control.needs_director(now) {
+            let end = files[1].is_ready().then(|| self.take_signals()).flatten();
+            let is_over = waited.is_err() || files[0].is_ready() || end.is_some();
+            if !is_over && now < next_tick && !self.control.needs_director(now) {
                 continue;
             }
             let (mut instance, served) = self.packets.take_back();
             if let Err(complaint) = waited.and(served) {
                 return (instance, Err(complaint));
             }
-            if let Some(name) = self.signal_name() {
-                return (instance, Ok(name));
+            if let Some(signal) = end {
+                return (instance, Ok(signal));
             }
             next_tick = self.turn(&mut instance);
             self.packets.lend(instance);
@@ -74,13 +74,16 @@ impl Around<'_> {
         now + instance.until_tick(since_boot)
     }
 
-    /// The signal that has come, if one has.
-    fn signal_name(&self) -> Option<&'static str> {
-        let mut information = [0; 128];
-        (&self.signals).read_exact(&mut information).ok()?;
-        match i32::from_ne_bytes([information[0], information[1], information[2], information[3]]) {
-            system::SIGINT => Some("SIGINT"),
-            _ => Some("SIGTERM"),
+    /// Takes the signals that have come; gives the one that asks to end, if one does.
+    fn take_signals(&mut self) -> Option<Signal> {
+        let mut end = None;
+        for signal in self.signals.read() {
+            match signal.meaning() {
+                Meaning::End => end = end.or(Some(signal)),
+                Meaning::Reload => {}
+                Meaning::Nothing => self.log.info(&format!("{signal} is ignored")),
+            }
         }
+        end
     }
 }

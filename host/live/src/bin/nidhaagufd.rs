@@ -11,7 +11,7 @@ use live::log::position::Position;
 use live::log::Log;
 use live::packet_thread::PacketThread;
 use live::serve::Around;
-use live::system;
+use live::system::{self, signals::Signals};
 use live::tun::Tun;
 use nidhaaguf::Director;
 use std::io::{self, Write};
@@ -66,7 +66,7 @@ fn run(flags: Flags, log: &mut Log) -> Result<(), Failure> {
 
 /// Opens all there is to open before anything is served.
 fn start(config: &Config, director: Director, speed: u32, log: &mut Log) -> Result<(), Failure> {
-    let signals = system::signals_as_file()
+    let signals = Signals::take()
         .map_err(|error| Failure::Failed(format!("signals can't be taken: {error}")))?;
     let name = &config.device.value;
     let device = Tun::open(name).map_err(Failure::Failed)?;

@@ -8,6 +8,7 @@ mod connection;
 mod log;
 mod packet_thread;
 mod packets;
+mod signals;
 mod support;
 mod texts;
 mod told;
