@@ -1,5 +1,6 @@
 //! The loop that waits for clients, signals and the clock, beside the thread that serves the packets.
 
+use crate::config::reload::Reload;
 use crate::control::Control;
 use crate::instance::Instance;
 use crate::log::Log;
@@ -20,6 +21,8 @@ pub struct Around<'a> {
     pub control: Control,
     /// Where the signals are read.
     pub signals: Signals,
+    /// The configuration read anew.
+    pub reload: Reload,
     /// The log.
     pub log: &'a mut Log,
 }
@@ -34,18 +37,25 @@ impl Around<'_> {
         loop {
             let waited = self.wait(&mut files, next_tick);
             let now = Instant::now();
-            self.control.exchange(&files[2..], now);
-            let end = files[1].is_ready().then(|| self.take_signals()).flatten();
-            let is_over = waited.is_err() || files[0].is_ready() || end.is_some();
-            if !is_over && now < next_tick && !self.control.needs_director(now) {
+            self.control.exchange(&files[2..], self.log, now);
+            let signals = self.take_signals();
+            let is_over = waited.is_err() || files[0].is_ready() || signals.end.is_some();
+            let is_asked = signals.reload || self.control.needs_director(now);
+            if !is_over && !is_asked && now < next_tick {
                 continue;
+            }
+            if signals.reload || self.control.asks_for_reload() {
+                self.reload.read();
             }
             let (mut instance, served) = self.packets.take_back();
             if let Err(complaint) = waited.and(served) {
                 return (instance, Err(complaint));
             }
-            if let Some(signal) = end {
+            if let Some(signal) = signals.end {
                 return (instance, Ok(signal));
+            }
+            if signals.reload {
+                self.reload_by_signal(&mut instance);
             }
             next_tick = self.turn(&mut instance);
             self.packets.lend(instance);
@@ -69,21 +79,35 @@ impl Around<'_> {
         let (now, since_boot) = (Instant::now(), system::since_boot());
         // first the tick: what a command tells is true at the clock that it tells
         instance.tick(since_boot);
-        self.control.answer(instance, self.log, now);
+        self.control.answer(instance, &mut self.reload, self.log, now);
         self.log.look(instance);
         now + instance.until_tick(since_boot)
     }
 
-    /// Takes the signals that have come; gives the one that asks to end, if one does.
-    fn take_signals(&mut self) -> Option<Signal> {
-        let mut end = None;
+    /// Takes the signals that have come.
+    fn take_signals(&mut self) -> Asked {
+        let mut asked = Asked::default();
         for signal in self.signals.read() {
             match signal.meaning() {
-                Meaning::End => end = end.or(Some(signal)),
-                Meaning::Reload => {}
+                Meaning::End => asked.end = asked.end.or(Some(signal)),
+                Meaning::Reload => asked.reload = true,
                 Meaning::Nothing => self.log.info(&format!("{signal} is ignored")),
             }
         }
-        end
+        asked
     }
+
+    fn reload_by_signal(&mut self, instance: &mut Instance) {
+        match self.reload.apply(instance) {
+            Ok(changes) => self.log.tell_reload(&changes, "reload"),
+            Err(complaint) => self.log.error(&format!("reload: {complaint}")),
+        }
+    }
+}
+
+/// What the signals of a turn ask for.
+#[derive(Debug, Default)]
+struct Asked {
+    end: Option<Signal>,
+    reload: bool,
 }

@@ -2,8 +2,8 @@
 
 use live::clock::Clock;
 use live::config::flags::{self, Flags, Request};
-use live::config::Config;
-use live::config::{setup, words};
+use live::config::reload::Reload;
+use live::config::{setup, words, Config};
 use live::control::socket::Socket;
 use live::control::Control;
 use live::instance::Instance;
@@ -51,7 +51,7 @@ fn main() -> ExitCode {
 
 fn run(flags: Flags, log: &mut Log) -> Result<(), Failure> {
     let (check, speed) = (flags.check, flags.clock_speed.unwrap_or(1));
-    let config = Config::load(flags).map_err(Failure::Wrong)?;
+    let config = Config::load(flags.clone()).map_err(Failure::Wrong)?;
     let director = setup::set_up(&config).map_err(Failure::Wrong)?;
     if check {
         return say("configuration is good");
@@ -61,11 +61,18 @@ fn run(flags: Flags, log: &mut Log) -> Result<(), Failure> {
             "for drills only: the clock runs {speed} times as fast (--clock-speed)"
         ));
     }
-    start(&config, director, speed, log)
+    let reload = Reload::new(flags, config.clone());
+    start(&config, director, speed, reload, log)
 }
 
 /// Opens all there is to open before anything is served.
-fn start(config: &Config, director: Director, speed: u32, log: &mut Log) -> Result<(), Failure> {
+fn start(
+    config: &Config,
+    director: Director,
+    speed: u32,
+    reload: Reload,
+    log: &mut Log,
+) -> Result<(), Failure> {
     let signals = Signals::take()
         .map_err(|error| Failure::Failed(format!("signals can't be taken: {error}")))?;
     let name = &config.device.value;
@@ -80,7 +87,7 @@ fn start(config: &Config, director: Director, speed: u32, log: &mut Log) -> Resu
     if let Err(Failure::Failed(complaint)) = say(&ready_line(config)) {
         log.warning(&format!("the ready line is lost: {complaint}"));
     }
-    let mut around = Around { packets, control, signals, log };
+    let mut around = Around { packets, control, signals, reload, log };
     let (instance, ended) = around.serve(instance);
     let counts = format!("clock {}; {}", instance.director().clock(), instance.counters());
     match ended {
@@ -97,7 +104,7 @@ fn ready_line(config: &Config) -> String {
     format!(
         "ready: {service} {}, {}, {} servers, {} slots, device {}, control socket {}",
         words::protocol_name(protocol),
-        words::scheduler_name(config.scheduler),
+        words::scheduler_name(config.scheduler.value),
         config.servers.len(),
         config.slots.value,
         config.device.value,

@@ -42,7 +42,7 @@ pub enum Request {
 }
 
 /// The flags, each given once at most.
-#[derive(Debug, Default)]
+#[derive(Clone, Debug, Default)]
 pub struct Flags {
     /// The configuration file.
     pub config: Option<PathBuf>,

@@ -2,15 +2,17 @@
 
 pub mod flags;
 pub mod given;
+pub mod reload;
 pub mod setup;
 pub mod words;
 
 use flags::Flags;
 use given::Given;
 use nidhaaguf::{Protocol, Scheduler, Server, Settings};
-use std::fs::File;
-use std::io::Read;
+use std::fs::{File, OpenOptions};
+use std::io::{self, Read};
 use std::net::SocketAddrV4;
+use std::os::unix::fs::OpenOptionsExt;
 use std::path::{Path, PathBuf};
 
 /// Where the control socket is unless told otherwise.
@@ -20,14 +22,17 @@ const DEFAULT_SLOTS: usize = 4_096;
 
 /// More than any good file has: the wrong file is not read to its end.
 const MOST_BYTES: u64 = 65_536;
+const O_NONBLOCK: i32 = 0o4000;
 
 /// A whole configuration. Whether the library takes it is for [`crate::config::setup`] to find out.
 #[derive(Clone, Debug, PartialEq, Eq)]
 pub struct Config {
+    /// What its file is called in messages.
+    pub name: String,
     /// The virtual address and port, and the protocol.
     pub service: Given<(SocketAddrV4, Protocol)>,
     /// How servers are picked.
-    pub scheduler: Scheduler,
+    pub scheduler: Given<Scheduler>,
     /// Room for so many connections.
     pub slots: Given<usize>,
     /// The TUN device's name.
@@ -41,9 +46,22 @@ pub struct Config {
 impl Config {
     /// Reads the file that the flags name, and lets the flags override.
     pub fn load(flags: Flags) -> Result<Config, String> {
+        Config::load_by(flags, |path| File::open(path))
+    }
+
+    /// The same while the director serves: a file that would keep it waiting, as a pipe, is refused.
+    pub fn load_again(flags: Flags) -> Result<Config, String> {
+        Config::load_by(flags, open_regular)
+    }
+
+    fn load_by(
+        flags: Flags,
+        open: impl FnOnce(&Path) -> io::Result<File>,
+    ) -> Result<Config, String> {
         let path = flags.config.clone().unwrap_or_default();
-        let text = text_of(&path).map_err(|error| format!("{}: {error}", path.display()))?;
-        Config::read(&text, &path.display().to_string(), flags)
+        let name = path.display().to_string();
+        let text = text_of(open(&path)).map_err(|error| format!("{name}: {error}"))?;
+        Config::read(&text, &name, flags)
     }
 
     /// Reads the text of the file called `name`, and lets the flags override.
@@ -60,13 +78,22 @@ impl Config {
     pub fn settings(&self) -> Settings {
         let (service, protocol) = self.service.value;
         let servers = self.servers.iter().map(|server| server.value).collect();
-        Settings { service, protocol, scheduler: self.scheduler, servers }
+        Settings { service, protocol, scheduler: self.scheduler.value, servers }
     }
 }
 
-fn text_of(path: &Path) -> Result<String, String> {
+fn open_regular(path: &Path) -> io::Result<File> {
+    // else to open a pipe would wait already
+    let file = OpenOptions::new().read(true).custom_flags(O_NONBLOCK).open(path)?;
+    match file.metadata()?.is_file() {
+        true => Ok(file),
+        false => Err(io::Error::other("a reload takes a regular file")),
+    }
+}
+
+fn text_of(file: io::Result<File>) -> Result<String, String> {
     let mut bytes = Vec::new();
-    let file = File::open(path).map_err(|error| format!("can't be opened: {error}"))?;
+    let file = file.map_err(|error| format!("can't be opened: {error}"))?;
     let read = file.take(MOST_BYTES + 1).read_to_end(&mut bytes);
     match read.map_err(|error| format!("can't be read: {error}"))? as u64 {
         0..=MOST_BYTES => Ok(String::from_utf8_lossy(&bytes).into_owned()),
@@ -120,8 +147,9 @@ impl Draft {
         let device = || Given::new(DEFAULT_DEVICE.into(), &by_default("device"));
         let socket = || Given::new(DEFAULT_SOCKET.into(), &by_default("socket"));
         Ok(Config {
+            name: name.to_string(),
             service: self.service.ok_or_else(|| missing("service"))?,
-            scheduler: scheduler.value,
+            scheduler,
             slots: flags.slots.or(self.slots).unwrap_or_else(slots),
             device: flags.device.or(self.device).unwrap_or_else(device),
             socket: flags.socket.or(self.socket).unwrap_or_else(socket),

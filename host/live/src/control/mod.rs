@@ -7,12 +7,13 @@ pub mod metrics;
 pub mod socket;
 pub mod status;
 
+use crate::config::reload::Reload;
 use crate::instance::Instance;
 use crate::log::Log;
 use crate::system::Waited;
-use commands::Command;
+use commands::{Answer, Command};
 use connection::Connection;
-use socket::Socket;
+use socket::{Peer, Socket};
 use std::io::ErrorKind;
 use std::time::{Duration, Instant};
 
@@ -62,7 +63,7 @@ impl Control {
     }
 
     /// Reads and writes what is possible, and lets new clients in; `files` is what [`add_waited`](Control::add_waited) added.
-    pub fn exchange(&mut self, files: &[Waited], now: Instant) {
+    pub fn exchange(&mut self, files: &[Waited], log: &mut Log, now: Instant) {
         let (socket, clients) = files.split_at(1);
         for (client, _) in
             self.connections.iter_mut().zip(clients).filter(|(_, file)| file.is_ready())
@@ -71,7 +72,7 @@ impl Control {
         }
         self.close(now);
         if socket[0].is_ready() {
-            self.accept(now);
+            self.accept(log, now);
         }
     }
 
@@ -80,9 +81,22 @@ impl Control {
         self.has_command() || self.table_time().is_some_and(|time| time <= now)
     }
 
+    /// Whether the next command to be answered is a reload.
+    pub fn asks_for_reload(&self) -> bool {
+        let next = self.connections.iter().find(|client| client.has_command());
+        let command = next.map(|client| client.command().and_then(|line| read(&line)));
+        matches!(command, Some(Ok(Command::Reload)))
+    }
+
     /// Answers a command, and shows the table to the watchers.
-    pub fn answer(&mut self, instance: &mut Instance, log: &mut Log, now: Instant) {
-        self.answer_one(instance, log, now);
+    pub fn answer(
+        &mut self,
+        instance: &mut Instance,
+        reload: &mut Reload,
+        log: &mut Log,
+        now: Instant,
+    ) {
+        self.answer_one(instance, reload, log, now);
         self.show_table(instance, now);
         self.close(now);
     }
@@ -105,19 +119,34 @@ impl Control {
     }
 
     /// One command a turn, the oldest client's first: packets wait no longer than for that.
-    fn answer_one(&mut self, instance: &mut Instance, log: &mut Log, now: Instant) {
+    fn answer_one(
+        &mut self,
+        instance: &mut Instance,
+        reload: &mut Reload,
+        log: &mut Log,
+        now: Instant,
+    ) {
         let watchers = self.connections.iter().filter(|client| client.is_watching()).count();
         let Some(client) = self.connections.iter_mut().find(|client| client.has_command()) else {
             return;
         };
-        match client.command().and_then(|line| obey(&line, instance, watchers)) {
-            Ok((Command::Watch, text)) => {
+        let user = client.user();
+        match client.command().and_then(|line| obey(&line, instance, reload, watchers)) {
+            Ok((Command::Watch, answer)) => {
                 let shown = status::timeless(instance);
-                client.watch(&format!("ok\n{text}"), instance.changes(), &shown, now);
+                client.watch(&format!("ok\n{}", answer.text), instance.changes(), &shown, now);
             }
-            Ok((_, text)) => client.answer(&format!("ok\n{text}"), now),
+            Ok((command, answer)) => {
+                match command {
+                    Command::Reload => {
+                        log.tell_reload(&answer.changes, &format!("reload of user {user}"))
+                    }
+                    _ => log.tell_weights(&answer.changes, &format!("user {user}")),
+                }
+                client.answer(&format!("ok\n{}", answer.text), now);
+            }
             Err(complaint) => {
-                log.warning(&format!("refused a command of user {}: {complaint}", client.user()));
+                log.warning(&format!("refused a command of user {user}: {complaint}"));
                 client.answer(&format!("error: {complaint}\n"), now);
             }
         }
@@ -141,16 +170,16 @@ impl Control {
         }
     }
 
-    fn accept(&mut self, now: Instant) {
+    fn accept(&mut self, log: &mut Log, now: Instant) {
         for _ in 0..ACCEPTED_A_TURN {
             if !self.has_room(now) {
                 return;
             }
             match self.socket.accept() {
-                Ok(Some((stream, user))) => {
+                Ok(Peer::Allowed(stream, user)) => {
                     self.connections.push(Connection::new(stream, user, now))
                 }
-                Ok(None) => {}
+                Ok(Peer::TurnedAway(user)) => log.warning(&format!("turned away user {user}")),
                 Err(error) if error.kind() == ErrorKind::WouldBlock => return,
                 // as when no more files can be opened: trying again at once would only cost time
                 Err(_) => self.next_accept = now + AFTER_FAILURE,
@@ -159,11 +188,19 @@ impl Control {
     }
 }
 
-fn obey(line: &str, instance: &mut Instance, watchers: usize) -> Result<(Command, String), String> {
-    let words: Vec<&str> = line.split_whitespace().collect();
-    let command = Command::read(&words)?;
+fn obey(
+    line: &str,
+    instance: &mut Instance,
+    reload: &mut Reload,
+    watchers: usize,
+) -> Result<(Command, Answer), String> {
+    let command = read(line)?;
     if command == Command::Watch && watchers >= MOST_WATCHERS {
         return Err(format!("{watchers} clients watch already, and no more may"));
     }
-    command.answer(instance).map(|text| (command, text))
+    command.answer(instance, reload).map(|answer| (command, answer))
+}
+
+fn read(line: &str) -> Result<Command, String> {
+    Command::read(&line.split_whitespace().collect::<Vec<_>>())
 }

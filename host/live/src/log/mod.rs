@@ -4,7 +4,7 @@ pub mod line;
 pub mod output;
 pub mod position;
 
-use crate::instance::Instance;
+use crate::instance::{Instance, WeightChange};
 use line::Form;
 use output::Output;
 use position::Position;
@@ -77,6 +77,21 @@ impl Log {
         for (level, line) in self.position.told.look(instance) {
             self.write(level, &line);
         }
+    }
+
+    /// Tells the weights that were changed, and by whom.
+    pub fn tell_weights(&mut self, changes: &[WeightChange], by: &str) {
+        for change in changes {
+            self.notice(&format!("{change}, by {by}"));
+        }
+    }
+
+    /// Tells a reload, also one that changed nothing.
+    pub fn tell_reload(&mut self, changes: &[WeightChange], by: &str) {
+        if changes.is_empty() {
+            self.notice(&format!("{by}: nothing has changed"));
+        }
+        self.tell_weights(changes, by);
     }
 
     /// Writes a line, and before it how many were lost.

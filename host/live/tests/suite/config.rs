@@ -27,7 +27,7 @@ fn flags_of(words: &[&str]) -> Result<Flags, String> {
 fn a_whole_file() {
     let config = read(&format!("{CONFIG}slots 7\n\tdevice d1#c\nsocket /x/y  # z\n")).unwrap();
     assert_eq!(config.service.value, ("192.0.2.10:5432".parse().unwrap(), Protocol::Tcp));
-    assert_eq!(config.scheduler, Scheduler::LeastConnection);
+    assert_eq!(config.scheduler.value, Scheduler::LeastConnection);
     assert_eq!((config.slots.value, config.device.value.as_str()), (7, "d1"));
     assert_eq!(config.socket.value.to_str(), Some("/x/y"));
     let weights: Vec<u16> = config.servers.iter().map(|server| server.value.weight).collect();
@@ -41,7 +41,7 @@ fn defaults() {
     assert_eq!((config.slots.value, config.device.value.as_str()), (4_096, "nid0"));
     assert_eq!(config.socket.value.to_str(), Some("/run/nidhaaguf.sock"));
     assert_eq!(config.settings().protocol, Protocol::Udp);
-    assert_eq!(config.scheduler, Scheduler::WeightedRoundRobin);
+    assert_eq!(config.scheduler.value, Scheduler::WeightedRoundRobin);
 }
 
 #[test]
@@ -53,7 +53,7 @@ fn schedulers_by_name_and_number() {
     {
         for word in [name.to_string(), (number + 1).to_string()] {
             let config = read(&CONFIG.replace("least-connection", &word)).unwrap();
-            assert_eq!(config.scheduler as usize, number + 1);
+            assert_eq!(config.scheduler.value as usize, number + 1);
         }
     }
 }
@@ -156,7 +156,7 @@ fn flags_override_the_file() {
     let flags = flags_of(&words).unwrap();
     let config = Config::read(&format!("{CONFIG}slots 7\ndevice e\n"), "test.conf", flags).unwrap();
     assert_eq!((config.slots.value, config.device.value.as_str()), (9, "d"));
-    assert_eq!(config.scheduler, Scheduler::WeightedLeastConnection);
+    assert_eq!(config.scheduler.value, Scheduler::WeightedLeastConnection);
     assert_eq!(config.socket.value.to_str(), Some("s"));
     let flags = flags_of(&["--config", "f", "--slots", "5000"]).unwrap();
     let config = Config::read(CONFIG, "test.conf", flags).unwrap();
@@ -182,6 +182,7 @@ fn wrong_flags() {
     ] {
         assert_eq!(flags_of(words).unwrap_err(), complaint);
     }
-    let flags = flags_of(&["--config", "a", "--check", "--clock-speed", "1000"]).unwrap();
-    assert!(flags.check && flags.clock_speed == Some(1000));
+    let words = ["--config", "a", "--check", "--clock-speed", "1000", "--log-time"];
+    let flags = flags_of(&words).unwrap();
+    assert!(flags.check && flags.log_time && flags.clock_speed == Some(1000));
 }

@@ -8,6 +8,7 @@ mod connection;
 mod log;
 mod packet_thread;
 mod packets;
+mod reload;
 mod signals;
 mod support;
 mod texts;
