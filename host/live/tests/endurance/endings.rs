@@ -3,7 +3,6 @@
 use crate::daemon::{command, output, Daemon, Place, PATIENCE};
 use crate::link::{self, Link};
 use crate::model::{CONFIG, VIRTUAL};
-use crate::rig::Rig;
 use reference::packets::{tcp, SYN};
 use std::fs;
 use std::io::{Read, Write};
@@ -108,16 +107,6 @@ pub fn idle_daemon() {
     let time = daemon.processor_time() - before;
     assert!(time <= Duration::from_millis(40), "{time:?} of the processor's time in 2 s");
     daemon.end_by("INT");
-}
-
-/// The signal that interrupts the packet thread is nobody's secret: sent from outside it does nothing.
-pub fn stray_signals() {
-    let mut rig = Rig::start("signals");
-    for _ in 0..50 {
-        rig.daemon.signal_threads("URG");
-        rig.must_serve();
-    }
-    rig.daemon.end_by("TERM");
 }
 
 fn await_metric(daemon: &Daemon, line: &str) {
