@@ -38,7 +38,7 @@ impl Around<'_> {
             let waited = self.wait(&mut files, next_tick);
             let now = Instant::now();
             self.control.exchange(&files[2..], self.log, now);
-            let signals = self.take_signals();
+            let signals = files[1].is_ready().then(|| self.take_signals()).unwrap_or_default();
             let is_over = waited.is_err() || files[0].is_ready() || signals.end.is_some();
             let is_asked = signals.reload || self.control.needs_director(now);
             if !is_over && !is_asked && now < next_tick {

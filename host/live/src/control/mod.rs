@@ -179,7 +179,9 @@ impl Control {
                 Ok(Peer::Allowed(stream, user)) => {
                     self.connections.push(Connection::new(stream, user, now))
                 }
-                Ok(Peer::TurnedAway(user)) => log.warning(&format!("turned away user {user}")),
+                Ok(Peer::TurnedAway(user)) => {
+                    log.warning(&format!("turned user {user} away from the control socket"))
+                }
                 Err(error) if error.kind() == ErrorKind::WouldBlock => return,
                 // as when no more files can be opened: trying again at once would only cost time
                 Err(_) => self.next_accept = now + AFTER_FAILURE,

@@ -1,9 +1,11 @@
 //! The two programs as they are started, without a device.
 
 use crate::support::CONFIG;
+use live::log::line;
 use std::fs;
 use std::path::PathBuf;
 use std::process::{Command, Output};
+use std::time::SystemTime;
 
 fn daemon(words: &[&str]) -> (i32, String, String) {
     run(Command::new(env!("CARGO_BIN_EXE_nidhaagufd")).args(words))
@@ -55,6 +57,18 @@ fn check_says_whether_it_is_good() {
     assert!(log.starts_with("<3>nidhaagufd: /nowhere/at.all: can't be opened: "), "{log}");
 }
 
+/// As 2026-11-16T14:02:06Z: the time of now, between those before and after.
+#[test]
+fn the_log_has_its_time() {
+    let now = || line::time(SystemTime::now());
+    let before = now();
+    let (code, _, log) = daemon(&["--log-time", "--config", "/nowhere/at.all"]);
+    assert_eq!(code, 2);
+    let (time, rest) = log.split_once(' ').unwrap();
+    assert!(rest.starts_with("error nidhaagufd: /nowhere/at.all: can't be opened: "), "{log}");
+    assert!(*before <= *time && *time <= *now(), "{log}");
+}
+
 #[test]
 fn a_file_that_has_no_end_is_not_read_to_it() {
     let (code, _, log) = daemon(&["--check", "--config", "/dev/zero"]);
@@ -68,7 +82,7 @@ fn help_and_version() {
     assert!(code == 0 && out.contains("--clock-speed N"), "{out}");
     assert_eq!(daemon(&["--version"]).1, "nidhaagufd 0.1.0\n");
     let (code, out, _) = control(&["help"]);
-    assert!(code == 0 && out.contains("weight N W"), "{out}");
+    assert!(code == 0 && out.contains("weight N W") && out.contains("reload  "), "{out}");
     assert_eq!(control(&["--version"]).1, "nidhaagufctl 0.1.0\n");
 }
 
@@ -80,6 +94,7 @@ fn wrong_usage_of_the_command() {
         (&["--socket"], "--socket: expected a path"),
         (&["--socket", "x"], "expected a command"),
         (&["weight", "1"], "expected `weight N W`"),
+        (&["reload", "now"], "expected `reload` and nothing after it"),
         (&["weight", "1", "70000"], "expected a weight, 0 to 65535"),
         (
             &["--socket", "/nowhere/sock", "status"],
