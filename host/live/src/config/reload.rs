@@ -62,40 +62,27 @@ pub fn changed_weights(
     started: &Config,
     settings: &Settings,
 ) -> Result<Vec<(usize, u16)>, String> {
-    let forgets = "needs a restart, which forgets all connections";
-    let restart = "needs a restart";
-    let service = new.service.value != (settings.service, settings.protocol);
-    for (is_other, place, words) in [
-        (service, &new.service.place, format!("another service {forgets}")),
-        (
-            new.scheduler.value != settings.scheduler,
-            &new.scheduler.place,
-            format!("another scheduler {forgets}"),
-        ),
-        (
-            new.slots.value != started.slots.value,
-            &new.slots.place,
-            format!("another number of slots {forgets}"),
-        ),
-        (
-            new.device.value != started.device.value,
-            &new.device.place,
-            format!("another device {restart}"),
-        ),
-        (
-            new.socket.value != started.socket.value,
-            &new.socket.place,
-            format!("another control socket {restart}"),
-        ),
-    ] {
-        if is_other {
-            return Err(format!("{place}: {words}"));
-        }
+    if let Some(other) = other_setup(new, started, settings) {
+        return Err(format!("{other} needs a restart, which forgets all connections"));
     }
-    match other_servers(new, &settings.servers) {
-        Some(complaint) => Err(format!("{complaint} {forgets}")),
+    let device = other(&new.device, &started.device.value, "device");
+    let socket = || other(&new.socket, &started.socket.value, "control socket");
+    match device.or_else(socket) {
+        Some(other) => Err(format!("{other} needs a restart")),
         None => Ok(other_weights(&new.servers, &settings.servers)),
     }
+}
+
+/// What would take a new setup of the library.
+fn other_setup(new: &Config, started: &Config, settings: &Settings) -> Option<String> {
+    other(&new.service, &(settings.service, settings.protocol), "service")
+        .or_else(|| other(&new.scheduler, &settings.scheduler, "scheduler"))
+        .or_else(|| other(&new.slots, &started.slots.value, "number of slots"))
+        .or_else(|| other_servers(new, &settings.servers))
+}
+
+fn other<T: PartialEq>(new: &Given<T>, old: &T, name: &str) -> Option<String> {
+    (new.value != *old).then(|| format!("{}: another {name}", new.place))
 }
 
 /// What is other about the servers than their weights.
