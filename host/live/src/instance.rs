@@ -3,6 +3,8 @@
 use crate::clock::Clock;
 use crate::counters::Counters;
 use nidhaaguf::{Director, Refusal, Served, Settings};
+use std::fmt;
+use std::net::SocketAddrV4;
 use std::os::fd::AsFd;
 use std::time::Duration;
 
@@ -37,7 +39,7 @@ impl Instance {
         self.weights_set
     }
 
-    /// What it was set up with: the weights may have changed since.
+    /// What it was set up with. The weights are those of the configuration applied last; by commands they may be others since.
     pub fn settings(&self) -> &Settings {
         &self.settings
     }
@@ -87,10 +89,38 @@ impl Instance {
         Ok(served)
     }
 
-    /// Sets a server's weight.
-    pub fn set_weight(&mut self, server: usize, weight: u16) -> Result<(), Refusal> {
-        self.director.set_weight(server, weight)?;
+    /// Sets a server's weight; None where it has been that already.
+    pub fn set_weight(&mut self, server: usize, new: u16) -> Result<Option<WeightChange>, Refusal> {
+        let old = self.director.weight(server);
+        self.director.set_weight(server, new)?;
         self.weights_set += 1;
-        Ok(())
+        let at = self.settings.servers[server].at;
+        let change = old.map(|old| WeightChange { server, at, old, new });
+        Ok(change.filter(|change| change.old != change.new))
+    }
+
+    /// Keeps the settings of a configuration that was applied: other weights than those that it was set up with.
+    pub fn keep_settings(&mut self, settings: Settings) {
+        self.settings = settings;
+    }
+}
+
+/// A weight that was changed.
+#[derive(Clone, Copy, Debug, PartialEq, Eq)]
+pub struct WeightChange {
+    /// The server's number.
+    pub server: usize,
+    /// Its address and port.
+    pub at: SocketAddrV4,
+    /// The weight before.
+    pub old: u16,
+    /// The weight now.
+    pub new: u16,
+}
+
+impl fmt::Display for WeightChange {
+    fn fmt(&self, out: &mut fmt::Formatter<'_>) -> fmt::Result {
+        let WeightChange { server, at, old, new } = self;
+        write!(out, "server {server} ({at}): weight {old} -> {new}")
     }
 }

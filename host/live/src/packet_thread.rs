@@ -6,7 +6,7 @@
 //! read waits: then the call ends by its number of packets.
 
 use crate::instance::Instance;
-use crate::system::{self, Waited};
+use crate::system::{signals, Waited};
 use nidhaaguf::End;
 use std::io::{self, ErrorKind, PipeReader, PipeWriter};
 use std::os::fd::{AsFd, BorrowedFd, OwnedFd};
@@ -41,7 +41,7 @@ impl PacketThread {
     /// Starts it, for the device of that name; it waits until it is lent a director.
     pub fn start(device: impl Into<OwnedFd>, name: &str) -> Result<PacketThread, String> {
         let start = || -> io::Result<PacketThread> {
-            system::take_interrupts()?;
+            signals::take_interrupts()?;
             let (lent, director) = mpsc::sync_channel(1);
             let (back, returned) = mpsc::sync_channel(1);
             let (end, other_end) = io::pipe()?;
@@ -71,7 +71,7 @@ impl PacketThread {
     pub fn take_back(&mut self) -> Returned {
         self.wanted.store(true, Ordering::SeqCst);
         loop {
-            system::interrupt(&self.thread);
+            signals::interrupt(&self.thread);
             match self.returned.recv_timeout(BETWEEN_SIGNALS) {
                 Ok(returned) => return returned,
                 Err(RecvTimeoutError::Timeout) => {}

@@ -1,14 +1,14 @@
 //! The loop that waits for clients, signals and the clock, beside the thread that serves the packets.
 
+use crate::config::reload::Reload;
 use crate::control::Control;
 use crate::handover::give;
 use crate::handover::snapshot::Snapshot;
 use crate::instance::Instance;
 use crate::log::Log;
 use crate::packet_thread::PacketThread;
+use crate::system::signals::{Meaning, Signal, Signals};
 use crate::system::{self, Waited};
-use std::fs::File;
-use std::io::Read;
 use std::os::fd::AsFd;
 use std::os::unix::net::UnixStream;
 use std::time::Instant;
@@ -16,8 +16,8 @@ use std::time::Instant;
 /// Why a director is served no more by this process.
 #[derive(Clone, Copy, Debug, PartialEq, Eq)]
 pub enum End {
-    /// A signal has come, of that name.
-    Signal(&'static str),
+    /// That signal has come.
+    Signal(Signal),
     /// Another process serves it.
     HandedOver,
 }
@@ -33,7 +33,9 @@ pub struct Around<'a> {
     /// The clients of the control socket.
     pub control: Control,
     /// Where the signals are read.
-    pub signals: File,
+    pub signals: Signals,
+    /// The configuration read anew.
+    pub reload: Reload,
     /// The log.
     pub log: &'a mut Log,
 }
@@ -47,14 +49,14 @@ impl Around<'_> {
                 return (instance, Ok(End::HandedOver));
             }
             self.packets.lend(instance);
-            let waited = self.wait_until_needed(next_tick);
+            let asked = self.wait_until_needed(next_tick);
             let (back, served) = self.packets.take_back();
             instance = back;
-            if let Err(complaint) = waited.and(served) {
-                return (instance, Err(complaint));
-            }
-            if let Some(name) = self.signal_name() {
-                return (instance, Ok(End::Signal(name)));
+            match asked.and_then(|asked| served.map(|()| asked)) {
+                Err(complaint) => return (instance, Err(complaint)),
+                Ok(Asked { end: Some(signal), .. }) => return (instance, Ok(End::Signal(signal))),
+                Ok(Asked { reload: true, .. }) => self.reload_by_signal(&mut instance),
+                Ok(_) => {}
             }
         }
     }
@@ -65,21 +67,25 @@ impl Around<'_> {
         let (now, since_boot) = (Instant::now(), system::since_boot());
         // first the tick: what a command tells is true at the clock that it tells
         instance.tick(since_boot);
-        let taker = self.control.answer(instance, self.log, now);
+        let taker = self.control.answer(instance, &mut self.reload, self.log, now);
         self.log.look(instance);
         (now + instance.until_tick(since_boot), taker)
     }
 
-    /// Talks with the clients until there is something to do for which the director is needed.
-    fn wait_until_needed(&mut self, next_tick: Instant) -> Result<(), String> {
+    /// Talks with the clients until there is something to do for which the director is needed; tells what signals ask for.
+    fn wait_until_needed(&mut self, next_tick: Instant) -> Result<Asked, String> {
         let mut files = Vec::new();
         loop {
             self.wait(&mut files, next_tick)?;
             let now = Instant::now();
-            self.control.exchange(&files[2..], now);
-            let has_news = files[..2].iter().any(Waited::is_ready);
-            if has_news || now >= next_tick || self.control.needs_director(now) {
-                return Ok(());
+            self.control.exchange(&files[2..], self.log, now);
+            let asked = files[1].is_ready().then(|| self.take_signals()).unwrap_or_default();
+            if asked.reload || self.control.asks_for_reload() {
+                self.reload.read();
+            }
+            let is_over = files[0].is_ready() || asked.end.is_some();
+            if is_over || asked.reload || now >= next_tick || self.control.needs_director(now) {
+                return Ok(asked);
             }
         }
     }
@@ -95,34 +101,50 @@ impl Around<'_> {
         system::wait(files, time).map_err(|error| format!("waiting for clients failed: {error}"))
     }
 
+    /// Takes the signals that have come.
+    fn take_signals(&mut self) -> Asked {
+        let mut asked = Asked::default();
+        for signal in self.signals.read() {
+            match signal.meaning() {
+                Meaning::End => asked.end = asked.end.or(Some(signal)),
+                Meaning::Reload => asked.reload = true,
+                Meaning::Nothing => self.log.info(&format!("{signal} is ignored")),
+            }
+        }
+        asked
+    }
+
+    fn reload_by_signal(&mut self, instance: &mut Instance) {
+        match self.reload.apply(instance) {
+            Ok(changes) => self.log.tell_reload(&changes, "reload"),
+            Err(complaint) => self.log.error(&format!("reload: {complaint}")),
+        }
+    }
+
     /// Hands the director over; tells whether the other process serves it now.
     fn hand_over(&mut self, instance: &Instance, taker: UnixStream) -> bool {
         let process = system::peer(&taker).map_or(0, |peer| peer.process);
         let snapshot = Snapshot::of(instance, self.log);
         let (device, listener) = (self.packets.device(), self.control.as_fd());
-        match give::give(taker, &snapshot, device, listener) {
+        let handed = give::give(taker, &snapshot, device, listener);
+        let connections = instance.director().used();
+        match &handed {
             Ok(()) => {
-                let connections = instance.director().used();
                 self.log
                     .notice(&format!("handed {connections} connections over to process {process}"));
                 self.control.leave();
-                true
             }
-            Err(reason) => {
-                self.log
-                    .error(&format!("not handed over to process {process}: {reason}; serving on"));
-                false
-            }
+            Err(reason) => self
+                .log
+                .error(&format!("not handed over to process {process}: {reason}; serving on")),
         }
+        handed.is_ok()
     }
+}
 
-    /// The signal that has come, if one has.
-    fn signal_name(&self) -> Option<&'static str> {
-        let mut information = [0; 128];
-        (&self.signals).read_exact(&mut information).ok()?;
-        match i32::from_ne_bytes([information[0], information[1], information[2], information[3]]) {
-            system::SIGINT => Some("SIGINT"),
-            _ => Some("SIGTERM"),
-        }
-    }
+/// What the signals of a turn ask for.
+#[derive(Debug, Default)]
+struct Asked {
+    end: Option<Signal>,
+    reload: bool,
 }

@@ -1,14 +1,15 @@
 //! The director's daemon: reads its configuration, opens its device and its control socket, and serves.
 
 use live::config::flags::{self, Flags, Request};
+use live::config::reload::Reload;
 use live::config::{setup, words, Config};
 use live::handover::file;
 use live::handover::snapshot::Snapshot;
+use live::instance::Instance;
 use live::log::Log;
 use live::serve::{Around, End};
 use live::start::{self, Started};
-use live::system;
-use std::fs::File;
+use live::system::signals::Signals;
 use std::io::{self, Write};
 use std::process::ExitCode;
 
@@ -22,7 +23,8 @@ enum Failure {
 
 fn main() -> ExitCode {
     let request = flags::read(std::env::args_os().skip(1));
-    let mut log = Log::default();
+    let timed = matches!(&request, Ok(Request::Run(flags)) if flags.log_time);
+    let mut log = Log::on_standard_error(timed);
     let done = match request {
         Ok(Request::Help) => say(flags::HELP.trim_end()),
         Ok(Request::Version) => say(concat!("nidhaagufd ", env!("CARGO_PKG_VERSION"))),
@@ -44,7 +46,7 @@ fn main() -> ExitCode {
 
 fn run(flags: Flags, log: &mut Log) -> Result<(), Failure> {
     let (check, take_over, speed) = (flags.check, flags.take_over, flags.clock_speed.unwrap_or(1));
-    let config = Config::load(flags).map_err(Failure::Wrong)?;
+    let config = Config::load(flags.clone()).map_err(Failure::Wrong)?;
     let director = setup::set_up(&config).map_err(Failure::Wrong)?;
     if check {
         return say("configuration is good");
@@ -55,30 +57,30 @@ fn run(flags: Flags, log: &mut Log) -> Result<(), Failure> {
         ));
     }
     // before a thread is started: so no signal goes to another
-    let signals = system::signals_as_file()
+    let signals = Signals::take()
         .map_err(|error| Failure::Failed(format!("signals can't be taken: {error}")))?;
     let started = match take_over {
         true => start::take_over(&config, speed, log)
             .map_err(|reason| format!("nothing was taken over: {reason}")),
         false => start::start(&config, director, speed, log),
     };
-    serve(&config, started.map_err(Failure::Failed)?, signals, log)
-}
-
-/// Serves to the end, and keeps what the next start needs.
-fn serve(config: &Config, started: Started, signals: File, log: &mut Log) -> Result<(), Failure> {
-    let Started { instance, packets, control, words } = started;
-    for line in words.into_iter().chain([ready_line(config)]) {
+    let Started { instance, packets, control, words } = started.map_err(Failure::Failed)?;
+    for line in words.into_iter().chain([ready_line(&config)]) {
         if let Err(Failure::Failed(complaint)) = say(&line) {
             log.warning(&format!("the line {line:?} is lost: {complaint}"));
         }
     }
-    let mut around = Around { packets, control, signals, log };
+    let reload = Reload::new(flags, config.clone());
+    serve(&config, instance, Around { packets, control, signals, reload, log })
+}
+
+/// Serves to the end, and keeps what the next start needs.
+fn serve(config: &Config, instance: Instance, mut around: Around<'_>) -> Result<(), Failure> {
     let (instance, ended) = around.serve(instance);
     let counts = format!("clock {}; {}", instance.director().clock(), instance.counters());
     let last = match ended {
         Ok(End::HandedOver) => return Ok(()),
-        Ok(End::Signal(name)) => Ok(format!("ended by {name}; {counts}")),
+        Ok(End::Signal(signal)) => Ok(format!("ended by {signal}; {counts}")),
         Err(complaint) => Err(Failure::Failed(format!("{complaint}; {counts}"))),
     };
     let (path, connections) = (&config.state.value, instance.director().used());

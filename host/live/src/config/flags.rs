@@ -28,6 +28,7 @@ usage: nidhaagufd --config FILE [--take-over] [flags]
   --scheduler NAME    this scheduler instead
   --slots N           so many slots instead
   --clock-speed N     the clock runs N times as fast, 1 to 1000; for drills only
+  --log-time          each line of the log with its time, as where no journal adds it
   --check             read the configuration, say whether it is good, and exit
   --help, --version
 ";
@@ -44,7 +45,7 @@ pub enum Request {
 }
 
 /// The flags, each given once at most.
-#[derive(Debug, Default)]
+#[derive(Clone, Debug, Default)]
 pub struct Flags {
     /// The configuration file.
     pub config: Option<PathBuf>,
@@ -60,6 +61,8 @@ pub struct Flags {
     pub clock_speed: Option<u32>,
     /// Take over from the director that serves there now.
     pub take_over: bool,
+    /// Each line of the log has its time.
+    pub log_time: bool,
     /// Only check the configuration.
     pub check: bool,
 }
@@ -77,6 +80,7 @@ pub fn read(arguments: impl Iterator<Item = OsString>) -> Result<Request, String
             "--version" => return Ok(Request::Version),
             "--check" => flags.check = true,
             "--take-over" => flags.take_over = true,
+            "--log-time" => flags.log_time = true,
             _ => {
                 let value = words.next().transpose()?;
                 flags.take(&flag, value).map_err(|complaint| format!("{flag}: {complaint}"))?;

@@ -3,15 +3,17 @@
 pub mod compare;
 pub mod flags;
 pub mod given;
+pub mod reload;
 pub mod setup;
 pub mod words;
 
 use flags::Flags;
 use given::Given;
 use nidhaaguf::{Protocol, Scheduler, Server, Settings};
-use std::fs::File;
-use std::io::Read;
+use std::fs::{File, OpenOptions};
+use std::io::{self, Read};
 use std::net::SocketAddrV4;
+use std::os::unix::fs::OpenOptionsExt;
 use std::path::{Path, PathBuf};
 
 /// Where the control socket is unless told otherwise.
@@ -21,10 +23,13 @@ const DEFAULT_SLOTS: usize = 4_096;
 
 /// More than any good file has: the wrong file is not read to its end.
 const MOST_BYTES: u64 = 65_536;
+const O_NONBLOCK: i32 = 0o4000;
 
 /// A whole configuration. Whether the library takes it is for [`crate::config::setup`] to find out.
 #[derive(Clone, Debug, PartialEq, Eq)]
 pub struct Config {
+    /// What its file is called in messages.
+    pub name: String,
     /// The virtual address and port, and the protocol.
     pub service: Given<(SocketAddrV4, Protocol)>,
     /// How servers are picked.
@@ -44,9 +49,22 @@ pub struct Config {
 impl Config {
     /// Reads the file that the flags name, and lets the flags override.
     pub fn load(flags: Flags) -> Result<Config, String> {
+        Config::load_by(flags, |path| File::open(path))
+    }
+
+    /// The same while the director serves: a file that would keep it waiting, as a pipe, is refused.
+    pub fn load_again(flags: Flags) -> Result<Config, String> {
+        Config::load_by(flags, open_regular)
+    }
+
+    fn load_by(
+        flags: Flags,
+        open: impl FnOnce(&Path) -> io::Result<File>,
+    ) -> Result<Config, String> {
         let path = flags.config.clone().unwrap_or_default();
-        let text = text_of(&path).map_err(|error| format!("{}: {error}", path.display()))?;
-        Config::read(&text, &path.display().to_string(), flags)
+        let name = path.display().to_string();
+        let text = text_of(open(&path)).map_err(|error| format!("{name}: {error}"))?;
+        Config::read(&text, &name, flags)
     }
 
     /// Reads the text of the file called `name`, and lets the flags override.
@@ -67,9 +85,18 @@ impl Config {
     }
 }
 
-fn text_of(path: &Path) -> Result<String, String> {
+fn open_regular(path: &Path) -> io::Result<File> {
+    // else to open a pipe would wait already
+    let file = OpenOptions::new().read(true).custom_flags(O_NONBLOCK).open(path)?;
+    match file.metadata()?.is_file() {
+        true => Ok(file),
+        false => Err(io::Error::other("a reload takes a regular file")),
+    }
+}
+
+fn text_of(file: io::Result<File>) -> Result<String, String> {
     let mut bytes = Vec::new();
-    let file = File::open(path).map_err(|error| format!("can't be opened: {error}"))?;
+    let file = file.map_err(|error| format!("can't be opened: {error}"))?;
     let read = file.take(MOST_BYTES + 1).read_to_end(&mut bytes);
     match read.map_err(|error| format!("can't be read: {error}"))? as u64 {
         0..=MOST_BYTES => Ok(String::from_utf8_lossy(&bytes).into_owned()),
@@ -127,6 +154,7 @@ impl Draft {
         let socket = flags.socket.or(self.socket).unwrap_or_else(socket);
         let state = || Given::new(beside(&socket.value), &by_default("state"));
         Ok(Config {
+            name: name.to_string(),
             state: self.state.unwrap_or_else(state),
             service: self.service.ok_or_else(|| missing("service"))?,
             scheduler,

@@ -7,13 +7,14 @@ pub mod metrics;
 pub mod socket;
 pub mod status;
 
+use crate::config::reload::Reload;
 use crate::handover::request::Request;
 use crate::instance::Instance;
 use crate::log::Log;
 use crate::system::{self, Waited};
-use commands::Command;
+use commands::{Answer, Command};
 use connection::Connection;
-use socket::Socket;
+use socket::{Peer, Socket};
 use std::io::ErrorKind;
 use std::os::fd::{AsFd, BorrowedFd};
 use std::os::unix::net::UnixStream;
@@ -65,7 +66,7 @@ impl Control {
     }
 
     /// Reads and writes what is possible, and lets new clients in; `files` is what [`add_waited`](Control::add_waited) added.
-    pub fn exchange(&mut self, files: &[Waited], now: Instant) {
+    pub fn exchange(&mut self, files: &[Waited], log: &mut Log, now: Instant) {
         let (socket, clients) = files.split_at(1);
         for (client, _) in
             self.connections.iter_mut().zip(clients).filter(|(_, file)| file.is_ready())
@@ -74,7 +75,7 @@ impl Control {
         }
         self.close(now);
         if socket[0].is_ready() {
-            self.accept(now);
+            self.accept(log, now);
         }
     }
 
@@ -83,14 +84,22 @@ impl Control {
         self.has_command() || self.table_time().is_some_and(|time| time <= now)
     }
 
+    /// Whether the next command to be answered is a reload.
+    pub fn asks_for_reload(&self) -> bool {
+        let next = self.connections.iter().find(|client| client.has_command());
+        let command = next.map(|client| client.command().and_then(|line| read(&line)));
+        matches!(command, Some(Ok(Command::Reload)))
+    }
+
     /// Answers a command, and shows the table to the watchers. Gives the stream of a process that is to take over.
     pub fn answer(
         &mut self,
         instance: &mut Instance,
+        reload: &mut Reload,
         log: &mut Log,
         now: Instant,
     ) -> Option<UnixStream> {
-        let taker = self.answer_one(instance, log, now);
+        let taker = self.answer_one(instance, reload, log, now);
         self.show_table(instance, now);
         self.close(now);
         taker
@@ -133,21 +142,31 @@ impl Control {
     fn answer_one(
         &mut self,
         instance: &mut Instance,
+        reload: &mut Reload,
         log: &mut Log,
         now: Instant,
     ) -> Option<UnixStream> {
         let watchers = self.connections.iter().filter(|client| client.is_watching()).count();
         let place = self.connections.iter().position(Connection::has_command)?;
         let client = &mut self.connections[place];
-        match client.command().and_then(|line| obey(&line, instance, watchers)) {
+        let user = client.user();
+        match client.command().and_then(|line| obey(&line, instance, reload, watchers)) {
             Ok(Obeyed::TakeOver) => return Some(self.connections.remove(place).into_stream()),
-            Ok(Obeyed::Watch(text)) => {
+            Ok(Obeyed::Command(Command::Watch, answer)) => {
                 let shown = status::timeless(instance);
-                client.watch(&format!("ok\n{text}"), instance.changes(), &shown, now);
+                client.watch(&format!("ok\n{}", answer.text), instance.changes(), &shown, now);
             }
-            Ok(Obeyed::Answer(text)) => client.answer(&format!("ok\n{text}"), now),
+            Ok(Obeyed::Command(command, answer)) => {
+                match command {
+                    Command::Reload => {
+                        log.tell_reload(&answer.changes, &format!("reload of user {user}"))
+                    }
+                    _ => log.tell_weights(&answer.changes, &format!("user {user}")),
+                }
+                client.answer(&format!("ok\n{}", answer.text), now);
+            }
             Err(complaint) => {
-                log.warning(&format!("refused a command of user {}: {complaint}", client.user()));
+                log.warning(&format!("refused a command of user {user}: {complaint}"));
                 client.answer(&format!("error: {complaint}\n"), now);
             }
         }
@@ -172,16 +191,18 @@ impl Control {
         }
     }
 
-    fn accept(&mut self, now: Instant) {
+    fn accept(&mut self, log: &mut Log, now: Instant) {
         for _ in 0..ACCEPTED_A_TURN {
             if !self.has_room(now) {
                 return;
             }
             match self.socket.accept() {
-                Ok(Some((stream, user))) => {
+                Ok(Peer::Allowed(stream, user)) => {
                     self.connections.push(Connection::new(stream, user, now))
                 }
-                Ok(None) => {}
+                Ok(Peer::TurnedAway(user)) => {
+                    log.warning(&format!("turned user {user} away from the control socket"))
+                }
                 Err(error) if error.kind() == ErrorKind::WouldBlock => return,
                 // as when no more files can be opened: trying again at once would only cost time
                 Err(_) => self.next_accept = now + AFTER_FAILURE,
@@ -190,24 +211,30 @@ impl Control {
     }
 }
 
-/// What a command comes to.
+/// What a line of a client comes to.
 enum Obeyed {
-    Answer(String),
-    Watch(String),
+    Command(Command, Answer),
     TakeOver,
 }
 
-fn obey(line: &str, instance: &mut Instance, watchers: usize) -> Result<Obeyed, String> {
-    let words: Vec<&str> = line.split_whitespace().collect();
-    if let Some(request) = Request::read(&words) {
+fn obey(
+    line: &str,
+    instance: &mut Instance,
+    reload: &mut Reload,
+    watchers: usize,
+) -> Result<Obeyed, String> {
+    if let Some(request) = Request::read(line) {
         return request?.check(instance).map(|()| Obeyed::TakeOver);
     }
-    let command = Command::read(&words)?;
+    let command = read(line)?;
     if command == Command::Watch && watchers >= MOST_WATCHERS {
         return Err(format!("{watchers} clients watch already, and no more may"));
     }
-    let text = command.answer(instance)?;
-    Ok(if command == Command::Watch { Obeyed::Watch(text) } else { Obeyed::Answer(text) })
+    command.answer(instance, reload).map(|answer| Obeyed::Command(command, answer))
+}
+
+fn read(line: &str) -> Result<Command, String> {
+    Command::read(&line.split_whitespace().collect::<Vec<_>>())
 }
 
 impl AsFd for Control {

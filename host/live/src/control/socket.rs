@@ -23,6 +23,15 @@ pub struct Socket {
     identity: Option<(u64, u64)>,
 }
 
+/// Who has connected, by its user.
+#[derive(Debug)]
+pub enum Peer {
+    /// It may command the director.
+    Allowed(UnixStream, u32),
+    /// It may not, and was turned away.
+    TurnedAway(u32),
+}
+
 impl Socket {
     /// Makes the socket at that path, in place of one that nobody answers any more.
     pub fn open(path: &Path) -> Result<Socket, String> {
@@ -50,8 +59,8 @@ impl Socket {
         self.identity = None;
     }
 
-    /// The next connection with its user, or None if that one may not command the director. It never waits.
-    pub fn accept(&self) -> io::Result<Option<(UnixStream, u32)>> {
+    /// The next connection. It never waits.
+    pub fn accept(&self) -> io::Result<Peer> {
         let (mut stream, _) = self.listener.accept()?;
         stream.set_nonblocking(true)?;
         let (user, own) = (system::peer(&stream)?.user, system::own_user());
@@ -60,10 +69,10 @@ impl Socket {
             let reply = format!("error: only user {own} and root may command this director\n");
             // it is told if it reads; it is turned away in any case
             let _ = stream.write(reply.as_bytes());
-            return Ok(None);
+            return Ok(Peer::TurnedAway(user));
         }
         system::limit_send_buffer(&stream, SEND_BUFFER)?;
-        Ok(Some((stream, user)))
+        Ok(Peer::Allowed(stream, user))
     }
 }
 

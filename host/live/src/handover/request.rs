@@ -31,9 +31,9 @@ impl Request {
         format!("{NAME} {layout} {service} {}\n", words::protocol_name(*protocol))
     }
 
-    /// Reads the words of a command; None where it is another command.
-    pub fn read(words: &[&str]) -> Option<Result<Request, String>> {
-        match words {
+    /// Reads a client's line; None where it is another command.
+    pub fn read(line: &str) -> Option<Result<Request, String>> {
+        match line.split_whitespace().collect::<Vec<_>>().as_slice() {
             [NAME, layout, service, protocol] => Some(Request::of(layout, service, protocol)),
             [NAME, ..] => Some(Err(format!("expected `{NAME} LAYOUT ADDRESS:PORT PROTOCOL`"))),
             _ => None,

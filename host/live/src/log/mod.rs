@@ -1,10 +1,15 @@
 //! The log: one line an event on standard error.
 
+pub mod line;
+pub mod output;
 pub mod position;
 
-use crate::instance::Instance;
+use crate::instance::{Instance, WeightChange};
+use line::Form;
+use output::Output;
 use position::Position;
-use std::io::{self, Write};
+use std::io::{self, IsTerminal};
+use std::time::SystemTime;
 
 /// How much an event matters, by the numbers of syslog.
 #[derive(Clone, Copy, Debug, PartialEq, Eq)]
@@ -19,13 +24,42 @@ pub enum Level {
     Info = 6,
 }
 
-/// The log.
-#[derive(Debug, Default)]
+impl Level {
+    /// Its name.
+    pub fn name(self) -> &'static str {
+        match self {
+            Level::Error => "error",
+            Level::Warning => "warning",
+            Level::Notice => "notice",
+            Level::Info => "info",
+        }
+    }
+}
+
+/// The log. It never ends or stops the director: a line that isn't taken at once is lost, and that is told later.
+#[derive(Debug)]
 pub struct Log {
+    output: Output,
+    form: Form,
     position: Position,
 }
 
 impl Log {
+    /// A log to that output.
+    pub fn new(output: Output, form: Form) -> Log {
+        Log { output, form, position: Position::default() }
+    }
+
+    /// A log on standard error, each line with its time or not.
+    pub fn on_standard_error(timed: bool) -> Log {
+        let form = match (timed, io::stderr().is_terminal()) {
+            (true, _) => Form::Timed,
+            (false, true) => Form::Plain,
+            (false, false) => Form::Journal,
+        };
+        Log::new(Output::standard_error(), form)
+    }
+
     /// Goes on from a position, of a fresh start or of the process that served before; lines of this log count on.
     pub fn go_on(&mut self, position: Position) {
         let Position { lines, lost, told } = position;
@@ -45,12 +79,40 @@ impl Log {
         }
     }
 
-    /// Writes a line. A log that nobody takes must not end the director.
-    pub fn write(&mut self, level: Level, line: &str) {
-        match writeln!(io::stderr(), "<{}>nidhaagufd: {line}", level as u8) {
-            Ok(()) => self.position.lines += 1,
-            Err(_) => self.position.lost += 1,
+    /// Tells the weights that were changed, and by whom.
+    pub fn tell_weights(&mut self, changes: &[WeightChange], by: &str) {
+        for change in changes {
+            self.notice(&format!("{change}, by {by}"));
         }
+    }
+
+    /// Tells a reload, also one that changed nothing.
+    pub fn tell_reload(&mut self, changes: &[WeightChange], by: &str) {
+        if changes.is_empty() {
+            self.notice(&format!("{by}: nothing has changed"));
+        }
+        self.tell_weights(changes, by);
+    }
+
+    /// Writes a line, and before it how many were lost.
+    pub fn write(&mut self, level: Level, text: &str) {
+        if self.position.lost > 0 {
+            let lost = format!("{} lines of the log were lost", self.position.lost);
+            if self.put(Level::Warning, &lost) {
+                self.position.lost = 0;
+            }
+        }
+        // in their order: none before those that were lost are told
+        if self.position.lost > 0 || !self.put(level, text) {
+            self.position.lost += 1;
+        }
+    }
+
+    fn put(&mut self, level: Level, text: &str) -> bool {
+        let line = line::written(self.form, level, text, SystemTime::now());
+        let taken = self.output.put(&line);
+        self.position.lines += u64::from(taken);
+        taken
     }
 
     /// Something failed.

@@ -1,31 +1,20 @@
 //! Linux calls that the standard library doesn't offer, and all the unsafe code of this crate.
 
 pub mod descriptors;
+pub mod signals;
 
 use std::ffi::c_void;
 use std::fs::File;
 use std::io::{Error, ErrorKind, Result};
 use std::mem::size_of;
-use std::os::fd::{AsFd, AsRawFd, FromRawFd, OwnedFd};
+use std::os::fd::{AsFd, AsRawFd};
 use std::os::unix::net::UnixStream;
-use std::os::unix::thread::{JoinHandleExt, RawPthread};
-use std::thread::JoinHandle;
 use std::time::Duration;
-
-/// The signal of Ctrl-C.
-pub const SIGINT: i32 = 2;
-/// The signal by which a process is asked to end.
-pub const SIGTERM: i32 = 15;
-/// The signal that interrupts a thread. A process that doesn't take it ignores it, so it can't end this one, whoever sends
-/// it and whenever.
-const SIGURG: i32 = 23;
 
 const TUNSETIFF: u64 = 0x4004_54CA;
 const TUNGETIFF: u64 = 0x8004_54D2;
 /// IFF_TUN: packets without a link header. IFF_NO_PI: nor the four bytes that TUN puts in front by default.
 const TUN_PLAIN: i16 = 0x0001 | 0x1000;
-const SIG_BLOCK: i32 = 0;
-const SFD_NONBLOCK_CLOEXEC: i32 = 0o4000 | 0o2_000_000;
 const CLOCK_BOOTTIME: i32 = 7;
 const SOL_SOCKET: i32 = 1;
 const SO_SNDBUF: i32 = 7;
@@ -37,19 +26,6 @@ struct InterfaceRequest {
     name: [u8; 16],
     flags: i16,
     rest: [u8; 22],
-}
-
-/// C's `sigset_t`.
-#[repr(C)]
-struct SignalSet([u64; 16]);
-
-/// C's `struct sigaction`.
-#[repr(C)]
-struct SignalAction {
-    handler: extern "C" fn(i32),
-    mask: SignalSet,
-    flags: i32,
-    restorer: usize,
 }
 
 /// C's `struct ucred`: a process and whose it is.
@@ -86,12 +62,6 @@ const POLLOUT: i16 = 4;
 extern "C" {
     fn ioctl(descriptor: i32, request: u64, ...) -> i32;
     fn poll(entries: *mut Waited, count: u64, milliseconds: i32) -> i32;
-    fn sigemptyset(set: *mut SignalSet) -> i32;
-    fn sigaddset(set: *mut SignalSet, signal: i32) -> i32;
-    fn pthread_sigmask(how: i32, set: *const SignalSet, old: *mut SignalSet) -> i32;
-    fn sigaction(signal: i32, action: *const SignalAction, old: *mut SignalAction) -> i32;
-    fn pthread_kill(thread: RawPthread, signal: i32) -> i32;
-    fn signalfd(descriptor: i32, set: *const SignalSet, flags: i32) -> i32;
     fn getsockopt(
         descriptor: i32,
         level: i32,
@@ -153,42 +123,6 @@ pub fn wait(files: &mut [Waited], time: Duration) -> Result<()> {
         }
         other => other,
     }
-}
-
-/// Keeps SIGINT and SIGTERM from ending the process: they are read from the file instead, 128 bytes each, of which the
-/// first four are the signal's number.
-pub fn signals_as_file() -> Result<File> {
-    let mut set = SignalSet([0; 16]);
-    // SAFETY: the set is a whole sigset_t that lives through the calls; the old mask isn't asked for; the descriptor that
-    // a success gives is new and nobody else's.
-    unsafe {
-        sigemptyset(&mut set);
-        sigaddset(&mut set, SIGINT);
-        sigaddset(&mut set, SIGTERM);
-        match pthread_sigmask(SIG_BLOCK, &set, std::ptr::null_mut()) {
-            0 => {}
-            number => return Err(Error::from_raw_os_error(number)),
-        }
-        let descriptor = signalfd(-1, &set, SFD_NONBLOCK_CLOEXEC);
-        done(descriptor)?;
-        Ok(File::from(OwnedFd::from_raw_fd(descriptor)))
-    }
-}
-
-/// Lets [`interrupt`] end what a thread waits for: by a handler that does nothing, and after which no call is begun anew.
-pub fn take_interrupts() -> Result<()> {
-    extern "C" fn nothing(_signal: i32) {}
-    let action = SignalAction { handler: nothing, mask: SignalSet([0; 16]), flags: 0, restorer: 0 };
-    // SAFETY: the action is a whole sigaction that lives through the call, and its handler touches nothing; the old one isn't
-    // asked for.
-    done(unsafe { sigaction(SIGURG, &action, std::ptr::null_mut()) })
-}
-
-/// Ends a read or a wait that the thread is in now, as interrupted. A thread that isn't in one, or that has ended, doesn't
-/// notice.
-pub fn interrupt<T>(thread: &JoinHandle<T>) {
-    // SAFETY: there is a handle of the thread, so it was neither joined nor detached, and its number is its own.
-    unsafe { pthread_kill(thread.as_pthread_t(), SIGURG) };
 }
 
 /// The process at the other end, as of its connecting or its listening.

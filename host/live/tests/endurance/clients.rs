@@ -127,6 +127,7 @@ pub fn other_users(rig: &mut Rig) {
     let (code, out, log) = as_nobody();
     assert_eq!((code, out.as_str()), (Some(1), ""), "{log}");
     assert_eq!(log, "nidhaagufctl: only user 0 and root may command this director\n");
+    rig.daemon.await_log("<4>nidhaagufd: turned user 65534 away from the control socket\n");
     fs::set_permissions(&socket, fs::Permissions::from_mode(0o600)).unwrap();
     rig.must_serve();
 }

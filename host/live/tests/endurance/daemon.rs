@@ -1,6 +1,7 @@
 //! A running daemon, and what is said to it.
 
 use crate::link;
+use live::system::{self, Waited};
 use programs::KILL;
 use std::fs;
 use std::io::{BufRead, BufReader, ErrorKind, Read, Write};
@@ -54,6 +55,8 @@ pub fn control() -> Command {
 /// A daemon that said it is ready, with its device up.
 pub struct Daemon {
     child: Child,
+    /// What was read of its log.
+    log: String,
     pub socket: String,
     pub ready: String,
 }
@@ -69,9 +72,14 @@ impl Daemon {
             panic!("not ready: {ready:?} {}", String::from_utf8_lossy(&output.stderr));
         }
         child.stdout = Some(out.into_inner());
-        let daemon = Daemon { child, socket: place.file("sock"), ready };
+        let daemon = Daemon::of_child(child, place, ready);
         link::ip("link set nid0 up");
         daemon
+    }
+
+    /// The daemon of that place, which has said that it is ready, or nothing yet.
+    pub fn of_child(child: Child, place: &Place, ready: String) -> Daemon {
+        Daemon { child, log: String::new(), socket: place.file("sock"), ready }
     }
 
     pub fn connect(&self) -> UnixStream {
@@ -89,15 +97,20 @@ impl Daemon {
         answer.strip_prefix("ok\n").unwrap_or_else(|| panic!("{command}: {answer}")).to_string()
     }
 
+    /// Its number.
+    pub fn process(&self) -> u32 {
+        self.child.id()
+    }
+
     /// Sends a signal by its name.
     pub fn signal(&self, name: &str) {
-        send_signal(name, &self.child.id().to_string());
+        send_signals(name, &[&self.process().to_string()]);
     }
 
     /// Sends each of its threads a signal.
     pub fn signal_threads(&self, name: &str) {
-        for thread in fs::read_dir(format!("/proc/{}/task", self.child.id())).unwrap() {
-            send_signal(name, thread.unwrap().file_name().to_str().unwrap());
+        for thread in fs::read_dir(format!("/proc/{}/task", self.process())).unwrap() {
+            send_signals(name, &[thread.unwrap().file_name().to_str().unwrap()]);
         }
     }
 
@@ -110,9 +123,34 @@ impl Daemon {
         Duration::from_millis(10 * ticks)
     }
 
+    /// Waits until its log has these words; gives the log so far.
+    pub fn await_log(&mut self, words: &str) -> &str {
+        let deadline = Instant::now() + PATIENCE;
+        while !self.log.contains(words) {
+            let left = deadline.saturating_duration_since(Instant::now());
+            assert!(left > Duration::ZERO, "{words:?} doesn't come: {}", self.log);
+            let pipe = self.child.stderr.as_mut().unwrap();
+            let mut file = [Waited::new(pipe, true, false)];
+            system::wait(&mut file, left).unwrap();
+            if file[0].is_ready() {
+                let mut bytes = [0; 4_096];
+                let length = pipe.read(&mut bytes).unwrap();
+                assert!(length > 0, "{words:?} isn't in the log: {}", self.log);
+                self.log.push_str(&String::from_utf8_lossy(&bytes[..length]));
+            }
+        }
+        &self.log
+    }
+
+    /// Nobody reads its log any more.
+    pub fn close_log(&mut self) {
+        self.child.stderr = None;
+    }
+
     /// Waits for its end.
     pub fn wait(mut self) -> Outcome {
-        outcome(&mut self.child)
+        let (code, out, rest) = outcome(&mut self.child);
+        (code, out, format!("{}{rest}", self.log))
     }
 
     /// Ends it by a signal, as an operator would: it must leave nothing behind.
@@ -122,15 +160,16 @@ impl Daemon {
         let (code, out, log) = self.wait();
         assert_eq!((code, out.as_str()), (Some(0), ""), "{log}");
         let last = log.lines().last().unwrap_or_default();
-        assert!(last.starts_with(&format!("nidhaagufd: ended by SIG{signal}; clock ")), "{log}");
+        assert!(last.starts_with(&format!("<5>nidhaagufd: ended by SIG{signal}; clock ")), "{log}");
         assert!(last.contains("; inbound ") && last.contains("; outbound "), "{log}");
         assert!(!PathBuf::from(socket).exists(), "the socket file is still there");
     }
 }
 
-/// To a process, or to a thread by its number.
-fn send_signal(name: &str, receiver: &str) {
-    assert!(KILL.run(&["-s", name, receiver]).status.success());
+/// Sends a signal, by its name or number, to each of these processes or threads.
+pub fn send_signals(name: &str, receivers: &[&str]) {
+    let words = [&["-s", name], receivers].concat();
+    assert!(KILL.run(&words).status.success(), "{words:?}");
 }
 
 fn connect(socket: &str) -> UnixStream {
@@ -179,7 +218,12 @@ fn outcome(child: &mut Child) -> Outcome {
         std::thread::sleep(Duration::from_millis(1));
     }
     let (mut out, mut log) = (String::new(), String::new());
-    child.stdout.take().unwrap().read_to_string(&mut out).unwrap();
-    child.stderr.take().unwrap().read_to_string(&mut log).unwrap();
+    // what is no pipe, or was read by another, has nothing here
+    if let Some(mut pipe) = child.stdout.take() {
+        pipe.read_to_string(&mut out).unwrap();
+    }
+    if let Some(mut pipe) = child.stderr.take() {
+        pipe.read_to_string(&mut log).unwrap();
+    }
     (child.wait().unwrap().code(), out, log)
 }

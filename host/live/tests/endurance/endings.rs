@@ -3,7 +3,6 @@
 use crate::daemon::{command, output, Daemon, Place, PATIENCE};
 use crate::link::{self, Link};
 use crate::model::{CONFIG, VIRTUAL};
-use crate::rig::Rig;
 use reference::packets::{tcp, SYN};
 use std::fs;
 use std::io::{Read, Write};
@@ -16,7 +15,7 @@ pub fn second_director() {
     let daemon = Daemon::start(&place, CONFIG, &[]);
     let (code, out, log) = output(&mut command(&place, CONFIG, "nid0", &[]));
     assert_eq!((code, out.as_str()), (Some(1), ""));
-    assert!(log.starts_with("nidhaagufd: the device nid0 can't be created: "), "{log}");
+    assert!(log.starts_with("<3>nidhaagufd: the device nid0 can't be created: "), "{log}");
     let (code, out, log) = output(&mut command(&place, CONFIG, "nid1", &[]));
     assert_eq!((code, out.as_str()), (Some(1), ""));
     assert!(log.ends_with(": another director answers there\n"), "{log}");
@@ -61,7 +60,7 @@ fn time_to_notice() -> Duration {
     let (code, out, log) = daemon.wait();
     let time = deleted.elapsed();
     assert_eq!((code, out.as_str()), (Some(1), ""));
-    assert!(log.starts_with("nidhaagufd: the device nid0 is gone: "), "{log}");
+    assert!(log.contains("\n<3>nidhaagufd: the device nid0 is gone: "), "{log}");
     assert!(!Path::new(&place.file("sock")).exists());
     time
 }
@@ -80,7 +79,7 @@ pub fn idle_connections() {
     daemon.signal("TERM");
     let (code, _, log) = daemon.wait();
     assert_eq!(code, Some(0));
-    assert!(log.starts_with("nidhaagufd: for drills only: the clock runs 1000 times"), "{log}");
+    assert!(log.starts_with("<4>nidhaagufd: for drills only: the clock runs 1000 times"), "{log}");
 }
 
 /// The clock ticks by itself: an idle connection goes though neither a packet nor a command comes.
@@ -108,16 +107,6 @@ pub fn idle_daemon() {
     let time = daemon.processor_time() - before;
     assert!(time <= Duration::from_millis(40), "{time:?} of the processor's time in 2 s");
     daemon.end_by("INT");
-}
-
-/// The signal that interrupts the packet thread is nobody's secret: sent from outside it does nothing.
-pub fn stray_signals() {
-    let mut rig = Rig::start("signals");
-    for _ in 0..50 {
-        rig.daemon.signal_threads("URG");
-        rig.must_serve();
-    }
-    rig.daemon.end_by("TERM");
 }
 
 fn await_metric(daemon: &Daemon, line: &str) {

@@ -141,6 +141,6 @@ pub fn device_deleted_under_a_flood() {
         link::ip("link delete nid0");
         let (code, _, log) = daemon.wait();
         assert_eq!(code, Some(1), "{log}");
-        assert!(log.starts_with("nidhaagufd: the device nid0 is gone: "), "{log}");
+        assert!(log.contains("\n<3>nidhaagufd: the device nid0 is gone: "), "{log}");
     });
 }

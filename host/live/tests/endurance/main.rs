@@ -10,9 +10,12 @@ mod damage;
 mod endings;
 mod floods;
 mod link;
+mod logs;
 mod model;
 mod packets;
+mod reloads;
 mod rig;
+mod signals;
 
 use rig::Rig;
 
@@ -65,7 +68,6 @@ fn starts_and_ends() {
         endings::idle_connections();
         endings::ticks_in_silence();
         endings::idle_daemon();
-        endings::stray_signals();
     });
 }
 
@@ -75,5 +77,40 @@ fn floods_of_packets() {
         floods::commands_while_packets_pass();
         floods::status_under_a_flood();
         floods::device_deleted_under_a_flood();
+    });
+}
+
+#[test]
+fn signals_of_all_kinds() {
+    in_own_network("endurance of signals", || {
+        let mut rig = Rig::start("signals");
+        signals::interrupts(&mut rig);
+        signals::ignored(&mut rig);
+        signals::flood(&mut rig);
+        rig.daemon.end_by("QUIT");
+    });
+}
+
+#[test]
+fn logs_and_what_is_in_them() {
+    in_own_network("endurance of the log", || {
+        let mut rig = Rig::start("log");
+        logs::drained_server(&mut rig);
+        logs::full_table(&mut rig);
+        rig.daemon.end_by("TERM");
+        logs::full_devices();
+        logs::unread_log();
+        logs::closed_log();
+    });
+}
+
+#[test]
+fn reloads() {
+    in_own_network("endurance of reloads", || {
+        let mut rig = Rig::start("reloads");
+        reloads::changed_weights(&mut rig);
+        reloads::unchanged_file(&mut rig);
+        reloads::bad_files(&mut rig);
+        rig.daemon.end_by("TERM");
     });
 }

@@ -1,9 +1,11 @@
 //! The two programs as they are started, without a device.
 
 use crate::support::CONFIG;
+use live::log::line;
 use std::fs;
 use std::path::PathBuf;
 use std::process::{Command, Output};
+use std::time::SystemTime;
 
 fn daemon(words: &[&str]) -> (i32, String, String) {
     run(Command::new(env!("CARGO_BIN_EXE_nidhaagufd")).args(words))
@@ -33,7 +35,7 @@ fn a_bad_configuration_ends_the_daemon_with_its_line() {
     let (code, out, log) = daemon(&["--config", path]);
     assert_eq!((code, out.as_str()), (2, ""));
     assert!(
-        log.starts_with(&format!("nidhaagufd: {path} line 3: expected a scheduler: ")),
+        log.starts_with(&format!("<3>nidhaagufd: {path} line 3: expected a scheduler: ")),
         "{log}"
     );
     let (code, _, log) = daemon(&["--config", path, "--scheduler", "1", "--slots", "0"]);
@@ -49,10 +51,22 @@ fn check_says_whether_it_is_good() {
     assert_eq!(daemon(&["--config", path, "--check"]), good);
     let (code, out, log) = daemon(&["--check", "--config", path, "--slots", "4097"]);
     assert_eq!((code, out.as_str()), (2, ""));
-    assert!(log.starts_with("nidhaagufd: --slots: there must be"), "{log}");
+    assert!(log.starts_with("<3>nidhaagufd: --slots: there must be"), "{log}");
     let (code, _, log) = daemon(&["--check", "--config", "/nowhere/at.all"]);
     assert_eq!(code, 2);
-    assert!(log.starts_with("nidhaagufd: /nowhere/at.all: can't be opened: "), "{log}");
+    assert!(log.starts_with("<3>nidhaagufd: /nowhere/at.all: can't be opened: "), "{log}");
+}
+
+/// As 2026-11-16T14:02:06Z: the time of now, between those before and after.
+#[test]
+fn the_log_has_its_time() {
+    let now = || line::time(SystemTime::now());
+    let before = now();
+    let (code, _, log) = daemon(&["--log-time", "--config", "/nowhere/at.all"]);
+    assert_eq!(code, 2);
+    let (time, rest) = log.split_once(' ').unwrap();
+    assert!(rest.starts_with("error nidhaagufd: /nowhere/at.all: can't be opened: "), "{log}");
+    assert!(*before <= *time && *time <= *now(), "{log}");
 }
 
 #[test]
@@ -68,7 +82,7 @@ fn help_and_version() {
     assert!(code == 0 && out.contains("--clock-speed N"), "{out}");
     assert_eq!(daemon(&["--version"]).1, "nidhaagufd 0.1.0\n");
     let (code, out, _) = control(&["help"]);
-    assert!(code == 0 && out.contains("weight N W"), "{out}");
+    assert!(code == 0 && out.contains("weight N W") && out.contains("reload  "), "{out}");
     assert_eq!(control(&["--version"]).1, "nidhaagufctl 0.1.0\n");
 }
 
@@ -80,6 +94,7 @@ fn wrong_usage_of_the_command() {
         (&["--socket"], "--socket: expected a path"),
         (&["--socket", "x"], "expected a command"),
         (&["weight", "1"], "expected `weight N W`"),
+        (&["reload", "now"], "expected `reload` and nothing after it"),
         (&["weight", "1", "70000"], "expected a weight, 0 to 65535"),
         (
             &["--socket", "/nowhere/sock", "status"],

@@ -1,6 +1,9 @@
 //! Commands and their answers.
 
 use crate::support::*;
+use live::config::flags::Flags;
+use live::config::reload::Reload;
+use live::config::Config;
 use live::control::commands::Command;
 use live::instance::Instance;
 
@@ -9,7 +12,13 @@ fn read(line: &str) -> Result<Command, String> {
 }
 
 fn answer(instance: &mut Instance, line: &str) -> Result<String, String> {
-    read(line)?.answer(instance)
+    Ok(read(line)?.answer(instance, &mut reload())?.text)
+}
+
+/// Of a file that isn't there.
+fn reload() -> Reload {
+    let config = Config::read(CONFIG, "test.conf", Flags::default()).unwrap();
+    Reload::new(Flags { config: Some("/nowhere/at.all".into()), ..Flags::default() }, config)
 }
 
 #[test]
@@ -22,6 +31,7 @@ fn commands_are_read() {
         ("count 12", Command::Count(12)),
         ("watch", Command::Watch),
         ("metrics", Command::Metrics),
+        ("reload", Command::Reload),
         ("  help ", Command::Help),
     ] {
         assert_eq!(read(line), Ok(command), "{line}");
@@ -30,12 +40,14 @@ fn commands_are_read() {
 
 #[test]
 fn wrong_commands_are_told_what_was_expected() {
-    let all = "expected a command: status, weight N W, drain N, count N, watch, metrics or help";
+    let all =
+        "expected a command: status, weight N W, drain N, count N, watch, metrics, reload or help";
     for (line, complaint) in [
         ("", &format!("{all}, got \"\"")),
         ("stop now", &format!("{all}, got \"stop\"")),
         ("STATUS", &format!("{all}, got \"STATUS\"")),
         ("a\u{7}\u{fffd}", &format!("{all}, got \"a\\u{{7}}\u{fffd}\"")),
+        ("reload now", &"expected `reload` and nothing after it".to_string()),
         ("status 1", &"expected `status` and nothing after it".to_string()),
         ("weight 1", &"expected `weight N W`: a server's number and a weight".to_string()),
         ("weight 1 2 3", &"expected `weight N W`: a server's number and a weight".to_string()),
@@ -71,4 +83,26 @@ fn the_library_refuses_servers_that_are_not_there() {
     for line in ["count 3", "drain 3", "weight 3 1"] {
         assert_eq!(answer(&mut instance, line), Err(words.to_string()), "{line}");
     }
+}
+
+/// What the log tells of a command: an equal weight is no change.
+#[test]
+fn changed_weights_are_told() {
+    let mut instance = instance();
+    let mut changes = |line: &str| {
+        let answer = read(line).unwrap().answer(&mut instance, &mut reload()).unwrap();
+        answer.changes.iter().map(ToString::to_string).collect::<Vec<_>>()
+    };
+    assert_eq!(changes("weight 2 20"), [""; 0]);
+    assert_eq!(changes("weight 2 7"), ["server 2 (10.30.0.5:6432): weight 20 -> 7"]);
+    assert_eq!(changes("drain 2"), ["server 2 (10.30.0.5:6432): weight 7 -> 0"]);
+    assert_eq!(changes("drain 2"), [""; 0]);
+    assert_eq!(changes("status"), [""; 0]);
+}
+
+#[test]
+fn a_reload_without_its_file_changes_nothing() {
+    let complaint = answer(&mut instance(), "reload").unwrap_err();
+    assert!(complaint.starts_with("/nowhere/at.all: can't be opened: "), "{complaint}");
+    assert!(complaint.ends_with("; nothing was changed"), "{complaint}");
 }

@@ -182,6 +182,7 @@ fn wrong_flags() {
     ] {
         assert_eq!(flags_of(words).unwrap_err(), complaint);
     }
-    let flags = flags_of(&["--config", "a", "--check", "--clock-speed", "1000"]).unwrap();
-    assert!(flags.check && flags.clock_speed == Some(1000));
+    let words = ["--config", "a", "--check", "--clock-speed", "1000", "--log-time"];
+    let flags = flags_of(&words).unwrap();
+    assert!(flags.check && flags.log_time && flags.clock_speed == Some(1000));
 }

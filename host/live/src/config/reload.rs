@@ -1,0 +1,106 @@
+//! The configuration read anew while the director serves: its changed weights are set, and any other change is refused.
+
+use crate::config::flags::Flags;
+use crate::config::given::Given;
+use crate::config::{setup, Config};
+use crate::instance::{Instance, WeightChange};
+use nidhaaguf::{Server, Settings};
+
+/// What a reload needs.
+#[derive(Debug)]
+pub struct Reload {
+    flags: Flags,
+    started: Config,
+    /// Read, and not applied yet.
+    read: Option<Result<Config, String>>,
+}
+
+impl Reload {
+    /// For a director that was started with these flags and this configuration.
+    pub fn new(flags: Flags, started: Config) -> Reload {
+        Reload { flags, started, read: None }
+    }
+
+    /// Reads the file for the next [`apply`](Reload::apply). It takes no director, so packets don't wait for the disk.
+    pub fn read(&mut self) {
+        self.read = Some(load(&self.flags));
+    }
+
+    /// Sets the weights that have changed in the file, all or none.
+    pub fn apply(&mut self, instance: &mut Instance) -> Result<Vec<WeightChange>, String> {
+        let read = self.read.take().unwrap_or_else(|| load(&self.flags));
+        let applied = read.and_then(|config| self.apply_read(&config, instance));
+        applied.map_err(|complaint| format!("{complaint}; nothing was changed"))
+    }
+
+    fn apply_read(
+        &self,
+        config: &Config,
+        instance: &mut Instance,
+    ) -> Result<Vec<WeightChange>, String> {
+        let mut changes = Vec::new();
+        for (server, weight) in changed_weights(config, &self.started, instance.settings())? {
+            // never refused: the server is there
+            let change = instance.set_weight(server, weight);
+            changes.extend(change.map_err(|refusal| refusal.to_string())?);
+        }
+        instance.keep_settings(config.settings());
+        Ok(changes)
+    }
+}
+
+/// A configuration that a start would take.
+fn load(flags: &Flags) -> Result<Config, String> {
+    let config = Config::load_again(flags.clone())?;
+    setup::set_up(&config).map(|_| config)
+}
+
+/// The servers whose weight is another one than in `settings`, which are of the configuration applied last. An error says
+/// which line asks for what only a restart can do.
+pub fn changed_weights(
+    new: &Config,
+    started: &Config,
+    settings: &Settings,
+) -> Result<Vec<(usize, u16)>, String> {
+    if let Some(other) = other_setup(new, started, settings) {
+        return Err(format!("{other} needs a restart, which forgets all connections"));
+    }
+    let device = other(&new.device, &started.device.value, "device");
+    let socket = || other(&new.socket, &started.socket.value, "control socket");
+    match device.or_else(socket) {
+        Some(other) => Err(format!("{other} needs a restart")),
+        None => Ok(other_weights(&new.servers, &settings.servers)),
+    }
+}
+
+/// What would take a new setup of the library.
+fn other_setup(new: &Config, started: &Config, settings: &Settings) -> Option<String> {
+    other(&new.service, &(settings.service, settings.protocol), "service")
+        .or_else(|| other(&new.scheduler, &settings.scheduler, "scheduler"))
+        .or_else(|| other(&new.slots, &started.slots.value, "number of slots"))
+        .or_else(|| other_servers(new, &settings.servers))
+}
+
+fn other<T: PartialEq>(new: &Given<T>, old: &T, name: &str) -> Option<String> {
+    (new.value != *old).then(|| format!("{}: another {name}", new.place))
+}
+
+/// What is other about the servers than their weights.
+fn other_servers(new: &Config, servers: &[Server]) -> Option<String> {
+    let is_old = |given: &&Given<Server>| servers.iter().any(|old| old.at == given.value.at);
+    if let Some(added) = new.servers.iter().find(|given| !is_old(given)) {
+        return Some(format!("{}: another server", added.place));
+    }
+    let is_kept = |old: &Server| new.servers.iter().any(|given| given.value.at == old.at);
+    if let Some(number) = servers.iter().position(|old| !is_kept(old)) {
+        return Some(format!("{}: without server {number} ({}) it", new.name, servers[number].at));
+    }
+    let moved = new.servers.iter().zip(servers).find(|(given, old)| given.value.at != old.at);
+    moved.map(|(given, _)| format!("{}: another number of a server", given.place))
+}
+
+fn other_weights(new: &[Given<Server>], servers: &[Server]) -> Vec<(usize, u16)> {
+    let pairs = new.iter().zip(servers).enumerate();
+    let others = pairs.filter(|(_, (given, old))| given.value.weight != old.weight);
+    others.map(|(number, (given, _))| (number, given.value.weight)).collect()
+}

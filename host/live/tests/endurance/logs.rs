@@ -1,0 +1,120 @@
+//! What the log tells, and a log that nobody takes.
+
+use crate::daemon::{ask, command, Daemon, Place, PATIENCE};
+use crate::model::{CONFIG, SLOTS, VIRTUAL};
+use crate::rig::Rig;
+use reference::packets::{tcp, SYN};
+use std::fs::OpenOptions;
+use std::os::unix::net::UnixStream;
+use std::process::Stdio;
+use std::time::{Duration, Instant};
+
+/// The lines of a log with these words.
+fn lines_with<'a>(log: &'a str, words: &str) -> Vec<&'a str> {
+    log.lines().filter(|line| line.contains(words)).collect()
+}
+
+fn syns(rig: &mut Rig, clients: usize) -> Vec<Vec<u8>> {
+    (0..clients).map(|_| tcp((0x0A00_0001, rig.new_port()), VIRTUAL, SYN).build()).collect()
+}
+
+/// A drain in the log: the weight, by whom, and the end; a weight that is set to what it is already is no change.
+pub fn drained_server(rig: &mut Rig) {
+    let openings = syns(rig, 6);
+    rig.send(&openings);
+    for _ in 0..2 {
+        assert!(rig.daemon.text("drain 0").ends_with(", draining\n"));
+        rig.model.set_weight(0, 0);
+    }
+    rig.end_all();
+    let drained = "server 0 (10.1.0.5:6432) is drained: no connections, may be unplugged";
+    rig.daemon.await_log(drained);
+    rig.set_weight(0, 2);
+    let log = rig.daemon.await_log("weight 0 -> 2");
+    let expected = [
+        "<5>nidhaagufd: server 0 (10.1.0.5:6432): weight 2 -> 0, by user 0".to_string(),
+        format!("<5>nidhaagufd: {drained}"),
+        "<5>nidhaagufd: server 0 (10.1.0.5:6432): weight 0 -> 2, by user 0".to_string(),
+    ];
+    assert_eq!(lines_with(log, "server 0"), expected);
+    rig.must_serve();
+}
+
+/// A full table and its room are told once each, however many are refused.
+pub fn full_table(rig: &mut Rig) {
+    let more = 1_000;
+    let openings = syns(rig, SLOTS + more);
+    rig.send(&openings);
+    let full = "<4>nidhaagufd: the table is full: 64 of 64 slots used, new connections are refused";
+    rig.daemon.await_log(full);
+    rig.end_all();
+    let log = rig.daemon.await_log(&format!(" slots used, {more} openings were refused\n"));
+    assert_eq!(lines_with(log, "the table is full"), [full]);
+    assert_eq!(lines_with(log, "the table has room again: ").len(), 1, "{log}");
+    rig.must_serve();
+}
+
+/// Standard output, standard error or both on a full disk: it serves, and ends as ever.
+pub fn full_devices() {
+    for (full_output, full_log) in [(true, false), (false, true), (true, true)] {
+        let place = Place::new("full");
+        let full = || Stdio::from(OpenOptions::new().write(true).open("/dev/full").unwrap());
+        let piped = |is_full: bool| if is_full { full() } else { Stdio::piped() };
+        let mut command = command(&place, CONFIG, "nid0", &[]);
+        let started = command.stdout(piped(full_output)).stderr(piped(full_log)).spawn().unwrap();
+        let daemon = Daemon::of_child(started, &place, String::new());
+        await_socket(&daemon.socket);
+        assert!(daemon.ask("weight 9 9").starts_with("error: there is no server"));
+        assert_eq!(daemon.ask("count 0"), "ok\n0\n");
+        daemon.signal("TERM");
+        let (code, _, log) = daemon.wait();
+        assert_eq!(code, Some(0), "{log}");
+        let first = log.lines().next().unwrap_or_default();
+        let is_lost = first.starts_with("<4>nidhaagufd: the line \"ready: ");
+        assert_eq!(is_lost, full_output && !full_log, "{log}");
+    }
+}
+
+fn await_socket(path: &str) {
+    let deadline = Instant::now() + PATIENCE;
+    while UnixStream::connect(path).is_err() {
+        assert!(Instant::now() < deadline, "{path} doesn't come");
+        std::thread::sleep(Duration::from_millis(1));
+    }
+}
+
+/// Refused commands, each with a line, while nobody reads: each is answered, and the lines are written or counted as lost.
+pub fn unread_log() {
+    let commands = 10_000;
+    let mut rig = Rig::start("unread");
+    for _ in 0..commands {
+        assert!(ask(&rig.daemon.socket, "halt").starts_with("error: expected a command: "));
+    }
+    rig.must_serve();
+    // what it has in the pipe is read, so that there is room
+    rig.daemon.await_log("refused a command");
+    assert!(rig.daemon.ask("weight 9 9").starts_with("error: "));
+    let log = rig.daemon.await_log("got 9\n");
+    let lost = lines_with(log, " lines of the log were lost");
+    let number = lost[0].split(' ').nth(1).unwrap().parse::<usize>().unwrap();
+    assert_eq!(lines_with(log, "got \"halt\"").len() + number, commands);
+    assert!(number > commands / 2 && lost.len() == 1, "{lost:?}");
+    rig.daemon.end_by("TERM");
+}
+
+/// Nobody reads, and nobody can any more. That is a signal to the daemon each time it writes, which must not wake it forever.
+pub fn closed_log() {
+    let mut rig = Rig::start("closed");
+    rig.daemon.close_log();
+    for _ in 0..10 {
+        assert!(rig.daemon.ask("halt").starts_with("error: "));
+    }
+    rig.daemon.signal("USR1");
+    rig.must_serve();
+    let before = rig.daemon.processor_time();
+    std::thread::sleep(Duration::from_secs(1));
+    let time = rig.daemon.processor_time() - before;
+    assert!(time <= Duration::from_millis(100), "{time:?} of the processor's time in 1 s");
+    rig.daemon.signal("TERM");
+    assert_eq!(rig.daemon.wait().0, Some(0));
+}
