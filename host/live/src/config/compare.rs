@@ -44,8 +44,7 @@ pub fn difference(config: &Config, settings: &Settings, slots: usize) -> Option<
             let running = settings.servers.get(number).map(|server| server.at);
             let configured = config.servers.get(number).map(|server| server.value.at);
             let named = |at: Option<SocketAddrV4>| at.map_or("none".into(), |at| at.to_string());
-            let last = config.servers.last().map_or("", |server| &server.place);
-            let place = config.servers.get(number).map_or(last, |server| &server.place);
+            let place = config.servers.get(number).map_or(&config.name, |server| &server.place);
             differs(&format!("server {number}"), named(running), named(configured), place)
         })
     };

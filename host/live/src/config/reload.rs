@@ -1,5 +1,6 @@
 //! The configuration read anew while the director serves: its changed weights are set, and any other change is refused.
 
+use crate::config::compare::{difference, Difference};
 use crate::config::flags::Flags;
 use crate::config::given::Given;
 use crate::config::{setup, Config};
@@ -62,41 +63,24 @@ pub fn changed_weights(
     started: &Config,
     settings: &Settings,
 ) -> Result<Vec<(usize, u16)>, String> {
-    if let Some(other) = other_setup(new, started, settings) {
+    if let Some(Difference { part, running, configured }) =
+        difference(new, settings, started.slots.value)
+    {
+        let Given { value, place } = configured;
+        let other = format!("{place}: another {part} ({value} instead of {running})");
         return Err(format!("{other} needs a restart, which forgets all connections"));
     }
     let device = other(&new.device, &started.device.value, "device");
     let socket = || other(&new.socket, &started.socket.value, "control socket");
-    match device.or_else(socket) {
+    let state = || other(&new.state, &started.state.value, "state file");
+    match device.or_else(socket).or_else(state) {
         Some(other) => Err(format!("{other} needs a restart")),
         None => Ok(other_weights(&new.servers, &settings.servers)),
     }
 }
 
-/// What would take a new setup of the library.
-fn other_setup(new: &Config, started: &Config, settings: &Settings) -> Option<String> {
-    other(&new.service, &(settings.service, settings.protocol), "service")
-        .or_else(|| other(&new.scheduler, &settings.scheduler, "scheduler"))
-        .or_else(|| other(&new.slots, &started.slots.value, "number of slots"))
-        .or_else(|| other_servers(new, &settings.servers))
-}
-
 fn other<T: PartialEq>(new: &Given<T>, old: &T, name: &str) -> Option<String> {
     (new.value != *old).then(|| format!("{}: another {name}", new.place))
-}
-
-/// What is other about the servers than their weights.
-fn other_servers(new: &Config, servers: &[Server]) -> Option<String> {
-    let is_old = |given: &&Given<Server>| servers.iter().any(|old| old.at == given.value.at);
-    if let Some(added) = new.servers.iter().find(|given| !is_old(given)) {
-        return Some(format!("{}: another server", added.place));
-    }
-    let is_kept = |old: &Server| new.servers.iter().any(|given| given.value.at == old.at);
-    if let Some(number) = servers.iter().position(|old| !is_kept(old)) {
-        return Some(format!("{}: without server {number} ({}) it", new.name, servers[number].at));
-    }
-    let moved = new.servers.iter().zip(servers).find(|(given, old)| given.value.at != old.at);
-    moved.map(|(given, _)| format!("{}: another number of a server", given.place))
 }
 
 fn other_weights(new: &[Given<Server>], servers: &[Server]) -> Vec<(usize, u16)> {

@@ -16,6 +16,10 @@ pub fn set_up(config: &Config) -> Result<Director, String> {
     if socket.is_empty() || socket.len() > MOST_PATH || socket.as_bytes().contains(&0) {
         return Err(format!("{place}: expected a path of 1 to {MOST_PATH} bytes"));
     }
+    let Given { value: state, place } = &config.state;
+    if *state == config.socket.value {
+        return Err(format!("{place}: the control socket and the state file need a path each"));
+    }
     Director::set_up(&config.settings(), config.slots.value)
         .map_err(|refusal| explained(config, refusal))
 }

@@ -55,8 +55,16 @@ pub fn bad_files(rig: &mut Rig) {
     let restart = "needs a restart, which forgets all connections; nothing was changed";
     for (text, words) in [
         (other.replace("weighted-round-robin", "rr"), " line 2: expected a scheduler: "),
-        (other.replace("64", "65"), &format!(" line 3: another number of slots {restart}")),
-        (other.replace("10.2.0.5", "10.3.0.5"), &format!(" line 5: another server {restart}")),
+        (
+            other.replace("64", "65"),
+            &format!(" line 3: another number of slots (65 instead of 64) {restart}"),
+        ),
+        (
+            other.replace("10.2.0.5", "10.3.0.5"),
+            &format!(
+                " line 5: another server 1 (10.3.0.5:6432 instead of 10.2.0.5:6432) {restart}"
+            ),
+        ),
     ] {
         write_config(rig, &text);
         must_refuse(rig, words);

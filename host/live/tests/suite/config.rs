@@ -30,6 +30,9 @@ fn a_whole_file() {
     assert_eq!(config.scheduler.value, Scheduler::LeastConnection);
     assert_eq!((config.slots.value, config.device.value.as_str()), (7, "d1"));
     assert_eq!(config.socket.value.to_str(), Some("/x/y"));
+    assert_eq!(config.state.value.to_str(), Some("/x/y.state"));
+    let other = read(&format!("{CONFIG}state /v/z\n")).unwrap();
+    assert_eq!(other.state.value.to_str(), Some("/v/z"));
     let weights: Vec<u16> = config.servers.iter().map(|server| server.value.weight).collect();
     assert_eq!(weights, [1, 1, 20]);
     assert_eq!(setup::set_up(&config).unwrap().slots(), 7);
@@ -79,7 +82,7 @@ fn bad_lines_are_told_with_their_number() {
         (
             "# the service",
             "serverr x",
-            "1: expected a setting: service, scheduler, slots, device, socket or server, got \"serverr\"".into(),
+            "1: expected a setting: service, scheduler, slots, device, socket, state or server, got \"serverr\"".into(),
         ),
         (
             "# the service",
@@ -147,6 +150,8 @@ fn names_that_linux_would_refuse() {
     let text = format!("{CONFIG}socket /{}", "x".repeat(107));
     assert_eq!(complaint(&text), "test.conf line 7: expected a path of 1 to 107 bytes");
     assert!(setup::set_up(&read(&format!("{CONFIG}socket /{}", "x".repeat(106))).unwrap()).is_ok());
+    let each = "test.conf line 8: the control socket and the state file need a path each";
+    assert_eq!(complaint(&format!("{CONFIG}socket /s\nstate /s")), each);
 }
 
 #[test]
@@ -158,6 +163,7 @@ fn flags_override_the_file() {
     assert_eq!((config.slots.value, config.device.value.as_str()), (9, "d"));
     assert_eq!(config.scheduler.value, Scheduler::WeightedLeastConnection);
     assert_eq!(config.socket.value.to_str(), Some("s"));
+    assert_eq!(config.state.value.to_str(), Some("s.state"));
     let flags = flags_of(&["--config", "f", "--slots", "5000"]).unwrap();
     let config = Config::read(CONFIG, "test.conf", flags).unwrap();
     assert!(setup::set_up(&config).unwrap_err().starts_with("--slots: there must be 1 to 64"));
@@ -185,4 +191,5 @@ fn wrong_flags() {
     let words = ["--config", "a", "--check", "--clock-speed", "1000", "--log-time"];
     let flags = flags_of(&words).unwrap();
     assert!(flags.check && flags.log_time && flags.clock_speed == Some(1000));
+    assert!(!flags.take_over && flags_of(&["--take-over", "--config", "a"]).unwrap().take_over);
 }

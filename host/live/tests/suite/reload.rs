@@ -32,35 +32,60 @@ fn changed_weights_by_number() {
 fn what_needs_a_restart_is_told_with_its_line() {
     let forgets = "needs a restart, which forgets all connections";
     let without = |line: &str| CONFIG.replace(line, "");
-    for (text, words) in [
-        (CONFIG.replace(":5432 tcp", ":5433 tcp"), format!(" line 2: another service {forgets}")),
-        (CONFIG.replace("tcp", "udp"), format!(" line 2: another service {forgets}")),
+    for (text, place, part, running, value) in [
+        (
+            CONFIG.replace(":5432 ", ":5433 "),
+            " line 2",
+            "service",
+            "192.0.2.10:5432 tcp",
+            "192.0.2.10:5433 tcp",
+        ),
+        (
+            CONFIG.replace("tcp", "udp"),
+            " line 2",
+            "service",
+            "192.0.2.10:5432 tcp",
+            "192.0.2.10:5432 udp",
+        ),
         (
             CONFIG.replace("least-", "weighted-least-"),
-            format!(" line 3: another scheduler {forgets}"),
+            " line 3",
+            "scheduler",
+            "least-connection",
+            "weighted-least-connection",
         ),
-        (format!("{CONFIG}slots 9\n"), format!(" line 7: another number of slots {forgets}")),
+        (format!("{CONFIG}slots 9\n"), " line 7", "number of slots", "4096", "9"),
         (
             format!("{CONFIG}server 10.4.0.5:1 weight 1"),
-            format!(" line 7: another server {forgets}"),
+            " line 7",
+            "server 3",
+            "none",
+            "10.4.0.5:1",
         ),
-        (CONFIG.replace("10.2.0.5", "10.2.0.6"), format!(" line 5: another server {forgets}")),
+        (
+            CONFIG.replace("10.2.0.5", "10.2.0.6"),
+            " line 5",
+            "server 1",
+            "10.2.0.5:6432",
+            "10.2.0.6:6432",
+        ),
         (
             without("server 10.2.0.5:6432 weight 1\n"),
-            format!(": without server 1 (10.2.0.5:6432) it {forgets}"),
+            " line 5",
+            "server 1",
+            "10.2.0.5:6432",
+            "10.30.0.5:6432",
         ),
-        (
-            without("server 10.30.0.5:6432 weight 20\n"),
-            format!(": without server 2 (10.30.0.5:6432) it {forgets}"),
-        ),
-        (
-            CONFIG.replace("10.2.", "x").replace("10.30.", "10.2.").replace("x", "10.30."),
-            format!(" line 5: another number of a server {forgets}"),
-        ),
-        (format!("{CONFIG}device d1\n"), " line 7: another device needs a restart".into()),
-        (format!("{CONFIG}socket /x\n"), " line 7: another control socket needs a restart".into()),
+        (without("server 10.30.0.5:6432 weight 20\n"), "", "server 2", "10.30.0.5:6432", "none"),
     ] {
-        assert_eq!(changed(&text), Err(format!("test.conf{words}")));
+        let other = format!("another {part} ({value} instead of {running})");
+        assert_eq!(changed(&text), Err(format!("test.conf{place}: {other} {forgets}")));
+    }
+    for (text, words) in
+        [("device d1", "device"), ("socket /x", "control socket"), ("state /x", "state file")]
+    {
+        let complaint = format!("test.conf line 7: another {words} needs a restart");
+        assert_eq!(changed(&format!("{CONFIG}{text}\n")), Err(complaint));
     }
 }
 
@@ -124,7 +149,7 @@ fn a_bad_file_changes_nothing() {
             " line 5: two servers have the same address and port (4)",
         ),
         (better.replace("least-", ""), " line 3: expected a scheduler: "),
-        (better.replace("least-connection", "1"), " line 3: another scheduler needs a restart, "),
+        (better.replace("least-connection", "1"), " line 3: another scheduler (round-robin instead of least-connection) needs a restart, "),
         (String::new(), ": no server is given: "),
     ] {
         let complaint = reloaded.apply(&text).unwrap_err();
