@@ -9,9 +9,12 @@ use crate::instance::Instance;
 use crate::log::position::Position;
 use crate::log::Log;
 use nidhaaguf::raw::State;
-use nidhaaguf::{Director, Settings};
+use nidhaaguf::{Director, Refusal, Settings, Way};
 use std::fs;
 use std::time::Duration;
+
+/// More than any count comes to: a thousand million a second for a year.
+const MOST_COUNT: u64 = 1 << 55;
 
 /// A director between two packets.
 #[derive(Clone, Debug, PartialEq)]
@@ -53,6 +56,7 @@ impl Snapshot {
     /// The director that goes on from here now, at a clock of that speed; an error says why there is none. It must be sound by
     /// the library's own judgement, and set up as the configuration says.
     pub fn resume(self, config: &Config, speed: u32, now: Duration) -> Result<Resumed, String> {
+        self.possible_counts()?;
         let director = Director::resume(self.state, self.row)
             .map_err(|refusal| format!("the library refuses it: {refusal}"))?;
         same_setup(&director, config)?;
@@ -75,6 +79,25 @@ impl Snapshot {
         let instance = Instance::new(settings, director, self.clock);
         let instance = instance.with_counts(self.counters, self.weights_set);
         Ok(Resumed { instance, log, forgotten: None })
+    }
+
+    /// Counts go on by adding, and must be such that they can have come by it.
+    fn possible_counts(&self) -> Result<(), String> {
+        let Position { lines, lost, told } = &self.log;
+        let full = self.counters.packets.refused(Way::Inbound, Refusal::TableFull);
+        let single = [
+            self.counters.write_failures,
+            self.counters.idle_removed,
+            self.weights_set,
+            *lines,
+            *lost,
+        ];
+        let mut all = self.counters.packets.words().iter().chain(&single);
+        let is_told = told.refused_before <= told.refused && told.refused <= full;
+        match is_told && all.all(|&count| count < MOST_COUNT) {
+            true => Ok(()),
+            false => Err("its counts are none that a director can have".into()),
+        }
     }
 }
 
