@@ -45,10 +45,10 @@ pub fn start(
     let socket = Socket::open(&config.socket.value)?;
     let packets = PacketThread::start(device, name)?;
     let control = Control::new(socket, Instant::now());
-    // last of all: a file that was read is gone
+    // last of all: a file that was used is gone
     let (instance, words) = match from_file(config, speed, log)? {
-        Some(instance) => {
-            let words = kept("resumed", &instance);
+        Some(resumed) => {
+            let (instance, words) = go_on("resumed", resumed, config, log);
             (instance, Some(words))
         }
         None => {
@@ -62,29 +62,18 @@ pub fn start(
 }
 
 /// The director of the state file; None where there is none, or none that can be used.
-fn from_file(config: &Config, speed: u32, log: &mut Log) -> Result<Option<Instance>, String> {
+fn from_file(config: &Config, speed: u32, log: &mut Log) -> Result<Option<Resumed>, String> {
     let (path, now) = (&config.state.value, system::since_boot());
     let Some(found) = file::load(path) else { return Ok(None) };
-    let Resumed { mut instance, log: position, forgotten } = match found
-        .and_then(|snapshot| snapshot.resume(config, speed, now))
-    {
-        Ok(resumed) => resumed,
+    match found.and_then(|snapshot| snapshot.resume(config, speed, now)) {
+        Ok(resumed) => file::remove(path).map(|()| Some(resumed)),
         Err(reason) => {
-            let aside = file::put_aside(path)?;
-            log.error(&format!("the state file {} is not used: {reason}; it is put aside as {}, and no connection is known", path.display(), aside.display()));
-            return Ok(None);
+            let (aside, path) = (file::put_aside(path)?, path.display());
+            let aside = format!("it is now {}, and no connection is known", aside.display());
+            log.error(&format!("the state file {path} is not used: {reason}; {aside}"));
+            Ok(None)
         }
-    };
-    file::remove(path)?;
-    if let Some(connections) = forgotten {
-        log.warning(&format!(
-            "the machine was started anew: {connections} connections are forgotten, weights kept"
-        ));
     }
-    log.go_on(position);
-    tell_other_weights(config, &instance, log);
-    instance.tick(now);
-    Ok(Some(instance))
 }
 
 /// Takes over from the process that serves at the configuration's socket.
@@ -96,14 +85,10 @@ pub fn take_over(config: &Config, speed: u32, log: &mut Log) -> Result<Started, 
         Ok(ready) => ready,
         Err(reason) => return Err(giver.refuse(&reason)),
     };
-    // from here on it is this process that serves
     giver.serve()?;
+    // from here on it is this process that serves, and nothing may fail
     let control = Control::new(Socket::adopt(listener, &config.socket.value), Instant::now());
-    let instance = resumed.instance;
-    let words = kept("took over", &instance);
-    log.go_on(resumed.log);
-    log.notice(&words);
-    tell_other_weights(config, &instance, log);
+    let (instance, words) = go_on("took over", resumed, config, log);
     Ok(Started { instance, packets, control, words: Some(words) })
 }
 
@@ -124,9 +109,22 @@ fn ready(
     Ok((resumed, PacketThread::start(device, &name)?))
 }
 
-fn kept(how: &str, instance: &Instance) -> String {
-    let director = instance.director();
-    format!("{how} {} connections at clock {}, weights kept", director.used(), director.clock())
+/// A director that goes on, and what there is to say of it; the log tells it too.
+fn go_on(how: &str, resumed: Resumed, config: &Config, log: &mut Log) -> (Instance, String) {
+    let Resumed { mut instance, log: position, forgotten } = resumed;
+    log.go_on(position);
+    if let Some(connections) = forgotten {
+        log.warning(&format!(
+            "the machine was started anew: {connections} connections are forgotten"
+        ));
+    }
+    // what was idle by now is told no more
+    instance.tick(system::since_boot());
+    let (used, clock) = (instance.director().used(), instance.director().clock());
+    let words = format!("{how} {used} connections at clock {clock}, weights kept");
+    log.notice(&words);
+    tell_other_weights(config, &instance, log);
+    (instance, words)
 }
 
 /// Weights are kept, so one that was changed in the configuration meanwhile waits for a reload.

@@ -75,7 +75,11 @@ fn ask(path: &Path, line: &str, watch: bool) -> Result<(), Failure> {
     while missing < 2 {
         match ask_once(path, line, watch)? {
             Answer::Whole => return Ok(()),
-            Answer::Watched => missing = 0,
+            Answer::Watched => {
+                missing = 0;
+                // as before each table but the first
+                print("\n")?;
+            }
             Answer::Missing => missing += 1,
         }
     }
