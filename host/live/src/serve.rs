@@ -79,7 +79,7 @@ impl Around<'_> {
             self.wait(&mut files, next_tick)?;
             let now = Instant::now();
             self.control.exchange(&files[2..], self.log, now);
-            let asked = files[1].is_ready().then(|| self.take_signals()).unwrap_or_default();
+            let asked = if files[1].is_ready() { self.take_signals() } else { Asked::default() };
             if asked.reload || self.control.asks_for_reload() {
                 self.reload.read();
             }

@@ -1,10 +1,10 @@
 //! Impairs a link: reads packets from a TUN device, loses, duplicates and reorders some, and writes the others back to it, so that
 //! the kernel routes them on. For kernels without netem. Prints `ready: ` when the device is there, and its counts at SIGTERM.
 
+use live::system::signals::Signals;
 use live::system::{self, Waited};
 use live::tun::Tun;
 use rig::links::relay::{Rates, Relay};
-use std::fs::File;
 use std::io::{self, Write};
 use std::process::ExitCode;
 use std::time::{Duration, Instant};
@@ -50,7 +50,7 @@ fn read_order(arguments: &[String]) -> Result<Order, String> {
 }
 
 /// Waits until the device has a packet, the end has come, or the relay has to let a held packet go. Tells the first two.
-fn wait(device: &Tun, ending: &File, until: Option<Instant>) -> Result<(bool, bool), String> {
+fn wait(device: &Tun, ending: &Signals, until: Option<Instant>) -> Result<(bool, bool), String> {
     let mut files = [Waited::new(device, true, false), Waited::new(ending, true, false)];
     let left = until.map_or(Duration::MAX, |until| until.saturating_duration_since(Instant::now()));
     system::wait(&mut files, left).map_err(|error| format!("waiting failed: {error}"))?;
@@ -58,7 +58,7 @@ fn wait(device: &Tun, ending: &File, until: Option<Instant>) -> Result<(bool, bo
 }
 
 /// Relays packets until a signal ends it.
-fn relay_packets(relay: &mut Relay, device: &Tun, ending: &File) -> Result<(), String> {
+fn relay_packets(relay: &mut Relay, device: &Tun, ending: &Signals) -> Result<(), String> {
     let mut buffer = [0; 65536];
     // A packet that the kernel refuses is one more lost on the link.
     let mut send = |packet: &[u8]| {
@@ -85,7 +85,7 @@ fn relay_packets(relay: &mut Relay, device: &Tun, ending: &File) -> Result<(), S
 
 fn serve(order: Order) -> Result<(), String> {
     let failed = |error: io::Error| error.to_string();
-    let ending = system::signals_as_file().map_err(failed)?;
+    let ending = Signals::take().map_err(failed)?;
     let device = Tun::open(&order.device)?;
     println!(
         "ready: {} loses {}, duplicates {} and reorders {} packets in a thousand, seed {}",

@@ -12,26 +12,36 @@ const O_NONBLOCK: i32 = 0o4000;
 
 /// A file that takes lines, or loses them.
 #[derive(Debug)]
-pub struct Output(Option<File>);
+pub struct Output {
+    file: Option<File>,
+    /// Its last line was taken in part.
+    is_cut: bool,
+}
 
 impl Output {
     /// Lines to that file.
     pub fn new(file: File) -> Output {
-        Output(Some(file))
+        Output { file: Some(file), is_cut: false }
     }
 
     /// Lines to standard error.
     pub fn standard_error() -> Output {
-        Output(standard_error().ok())
+        Output { file: standard_error().ok(), is_cut: false }
     }
 
-    /// Writes a line if it is taken at once; tells whether it was.
+    /// Writes a line if it is taken at once; tells whether it was, and whole.
     pub fn put(&mut self, line: &str) -> bool {
-        let Some(file) = &mut self.0 else { return false };
+        let Some(file) = &mut self.file else { return false };
         let mut waited = [Waited::new(file, false, true)];
         let looked = system::wait(&mut waited, Duration::ZERO);
-        let has_room = looked.is_ok() && waited[0].is_ready();
-        has_room && file.write(line.as_bytes()).is_ok_and(|length| length == line.len())
+        if looked.is_err() || !waited[0].is_ready() {
+            return false;
+        }
+        // else it would go on the one that was cut, as by a disk that was full
+        let text = format!("{}{line}", if self.is_cut { "\n" } else { "" });
+        let taken = file.write(text.as_bytes()).ok();
+        self.is_cut = taken.map_or(self.is_cut, |length| length < text.len());
+        taken == Some(text.len())
     }
 }
 

@@ -5,7 +5,8 @@ use live::log::output::Output;
 use live::log::{Level, Log};
 use std::fs::{File, OpenOptions};
 use std::io::{self, PipeReader, Read};
-use std::os::fd::OwnedFd;
+use std::os::fd::{AsRawFd, OwnedFd};
+use std::os::unix::fs::OpenOptionsExt;
 use std::time::{Duration, SystemTime};
 
 /// The time so many seconds after 1970 began.
@@ -103,6 +104,25 @@ fn lines_that_nobody_reads_are_lost_and_told() {
     reader.read_to_string(&mut rest).unwrap();
     let lost = format!("<4>nidhaagufd: {} lines of the log were lost\n", position.lost);
     assert_eq!(rest, format!("{lost}<6>nidhaagufd: more\n"));
+}
+
+/// What was taken in part, as by a disk that is full, is a line of its own.
+#[test]
+fn a_line_that_was_cut_is_ended() {
+    let (mut reader, writer) = io::pipe().unwrap();
+    // a pipe that takes a part of what it has no room for, in place of waiting
+    let path = format!("/proc/self/fd/{}", writer.as_raw_fd());
+    let file = OpenOptions::new().write(true).custom_flags(0o4000).open(path).unwrap();
+    let mut output = Output::new(file);
+    assert!(!output.put(&"x".repeat(1 << 20)));
+    let mut read = vec![0; 1 << 20];
+    let length = reader.read(&mut read).unwrap();
+    assert!(read[..length].iter().all(|&byte| byte == b'x'));
+    assert!(output.put("first\n") && output.put("second\n"));
+    drop((output, writer));
+    let mut rest = String::new();
+    reader.read_to_string(&mut rest).unwrap();
+    assert_eq!(rest.trim_start_matches('x'), "\nfirst\nsecond\n");
 }
 
 #[test]
