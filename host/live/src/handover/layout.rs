@@ -74,50 +74,55 @@ const fn crc_table() -> [u32; 256] {
     table
 }
 
+/// It takes each struct apart, so that a new field doesn't compile before it has its place, and the layout a new number.
 struct Writer(Vec<u8>);
 
 impl Writer {
     fn snapshot(&mut self, snapshot: &Snapshot) {
-        self.text(&snapshot.boot);
-        self.u64(snapshot.clock.zero.as_secs());
-        self.u32(snapshot.clock.zero.subsec_nanos());
-        self.u32(snapshot.clock.speed);
-        self.state(&snapshot.state);
-        self.u32(snapshot.row.len() as u32);
-        snapshot.row.iter().for_each(|&word| self.u32(word));
-        snapshot.configured.iter().for_each(|&weight| self.u16(weight));
-        self.counters(&snapshot.counters);
-        self.u64(snapshot.weights_set);
-        self.position(&snapshot.log);
+        let Snapshot { boot, clock, state, row, configured, counters, weights_set, log } = snapshot;
+        let Clock { zero, speed } = clock;
+        self.text(boot);
+        self.u64(zero.as_secs());
+        self.u32(zero.subsec_nanos());
+        self.u32(*speed);
+        self.state(state);
+        self.u32(row.len() as u32);
+        row.iter().for_each(|&word| self.u32(word));
+        configured.iter().for_each(|&weight| self.u16(weight));
+        self.counters(counters);
+        self.u64(*weights_set);
+        self.position(log);
     }
 
     fn state(&mut self, state: &State) {
-        let Service { address, port, protocol, scheduler, servers } = state.service;
+        let State { service, clock, servers: places, place, level } = *state;
+        let Service { address, port, protocol, scheduler, servers } = service;
         self.u32(address);
         self.u16(port);
         self.0.extend([protocol, scheduler]);
         self.u32(servers);
-        self.u32(state.clock);
-        for server in &state.servers {
-            self.u32(server.address);
-            self.u16(server.port);
-            self.u16(server.weight);
-            self.u32(server.count);
+        self.u32(clock);
+        for Server { address, port, weight, count } in places {
+            self.u32(address);
+            self.u16(port);
+            self.u16(weight);
+            self.u32(count);
         }
-        self.u64(state.place);
-        self.u16(state.level);
+        self.u64(place);
+        self.u16(level);
     }
 
     fn counters(&mut self, counters: &Counters) {
-        counters.packets.words().iter().for_each(|&count| self.u64(count));
-        self.u64(counters.write_failures);
-        self.u64(counters.idle_removed);
+        let Counters { packets, write_failures, idle_removed } = counters;
+        packets.words().iter().for_each(|&count| self.u64(count));
+        self.u64(*write_failures);
+        self.u64(*idle_removed);
     }
 
     fn position(&mut self, position: &Position) {
-        let Told { full, refused, refused_before, drained } = position.told;
-        let numbers =
-            [position.lines, position.lost, full.into(), refused, refused_before, drained];
+        let Position { lines, lost, told } = position;
+        let Told { full, refused, refused_before, drained } = *told;
+        let numbers = [*lines, *lost, full.into(), refused, refused_before, drained];
         numbers.iter().for_each(|&number| self.u64(number));
     }
 
