@@ -40,9 +40,10 @@ pub fn start(
     log: &mut Log,
 ) -> Result<Started, String> {
     let name = &config.device.value;
-    file::check(&config.state.value)?;
     let device = Tun::open(name)?;
     let socket = Socket::open(&config.socket.value)?;
+    // only now no other process can be saving its state there
+    file::check(&config.state.value)?;
     let packets = PacketThread::start(device, name)?;
     let control = Control::new(socket, Instant::now());
     // last of all: a file that was used is gone
@@ -78,7 +79,6 @@ fn from_file(config: &Config, speed: u32, log: &mut Log) -> Result<Option<Resume
 
 /// Takes over from the process that serves at the configuration's socket.
 pub fn take_over(config: &Config, speed: u32, log: &mut Log) -> Result<Started, String> {
-    file::check(&config.state.value)?;
     let request = Request::new(config.service.value);
     let Taken { device, listener, snapshot, giver } = take(&config.socket.value, request)?;
     let (resumed, packets) = match ready(config, speed, snapshot, device) {
@@ -105,6 +105,7 @@ fn ready(
     if name != *value {
         return Err(format!("its device is {name}, and {place} says {value}"));
     }
+    file::check(&config.state.value)?;
     let resumed = snapshot.resume(config, speed, system::since_boot())?;
     Ok((resumed, PacketThread::start(device, &name)?))
 }
