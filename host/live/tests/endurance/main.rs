@@ -98,6 +98,7 @@ fn logs_and_what_is_in_them() {
         logs::drained_server(&mut rig);
         logs::full_table(&mut rig);
         rig.daemon.end_by("TERM");
+        logs::handed_on();
         logs::full_devices();
         logs::unread_log();
         logs::closed_log();
