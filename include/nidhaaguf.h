@@ -35,6 +35,9 @@
  * Nothing else: the state, the row, the packets and the other arguments may hold anything, and every call then ends with
  * the answer that its rules give (15, where the state and the row don't fit together). What a serve waits for is said there.
  *
+ * State and row are plain numbers without pointers. Kept in a file or sent to another process, they go on there; any call
+ * judges them first, and nidhaaguf_count changes nothing.
+ *
  * The rules that each call keeps are in docs/SCOPE.md, cited here as SCOPE 4.12; rule 4.N is refusal N.
  *
  * Addresses and ports are numbers in the machine's byte order: 192.0.2.10 is 0xC000020A (ntohl, ntohs). Packets are
