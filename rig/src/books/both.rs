@@ -32,6 +32,16 @@ impl Book for Both {
         self.observation.ended(port, before, after);
     }
 
+    fn crowd_came(&mut self, servers: Vec<usize>) {
+        self.sessions.crowd_came(servers.clone());
+        self.observation.crowd_came(servers);
+    }
+
+    fn crowd_went(&mut self, after: u32) {
+        self.sessions.crowd_went(after);
+        self.observation.crowd_went(after);
+    }
+
     fn close(&mut self) -> Result<(), Failure> {
         self.sessions.close()?;
         self.observation.close()

@@ -11,6 +11,17 @@ use std::time::{Duration, SystemTime, UNIX_EPOCH};
 /// Between two looks.
 const PAUSE: Duration = Duration::from_millis(10);
 
+/// The second that the director's clock showed somewhere between two times, in seconds since 1970.
+#[derive(Clone, Copy, Debug)]
+pub struct Reading {
+    /// No earlier.
+    pub before: f64,
+    /// No later.
+    pub after: f64,
+    /// The second.
+    pub clock: u32,
+}
+
 /// A look at the director's table, with times in seconds since 1970.
 #[derive(Clone, Debug)]
 pub struct Look {
@@ -29,9 +40,15 @@ impl Look {
         let status = director.status()?;
         Ok(Look { before, after: now(), status })
     }
+
+    /// What it says of the director's clock.
+    pub fn reading(&self) -> Reading {
+        Reading { before: self.before, after: self.after, clock: self.status.clock }
+    }
 }
 
-fn now() -> f64 {
+/// The time, in seconds since 1970.
+pub fn now() -> f64 {
     let since = SystemTime::now().duration_since(UNIX_EPOCH);
     since.expect("the clock stands after 1970").as_secs_f64()
 }

@@ -7,6 +7,7 @@ pub mod both;
 pub mod looks;
 pub mod observation;
 pub mod packets;
+pub mod replaced;
 pub mod sessions;
 
 use crate::lab::director::Director;
@@ -28,6 +29,12 @@ pub trait Book {
 
     /// The open session of that port has ended; its last packet came between these two clocks.
     fn ended(&mut self, port: u16, before: u32, after: u32);
+
+    /// From now on connections come and go on these servers that aren't known one by one.
+    fn crowd_came(&mut self, servers: Vec<usize>);
+
+    /// All such connections have ended by that clock.
+    fn crowd_went(&mut self, after: u32);
 
     /// No look comes after this.
     fn close(&mut self) -> Result<(), Failure>;

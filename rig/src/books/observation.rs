@@ -2,8 +2,10 @@
 
 use crate::books::looks::{Clock, Look, Watcher};
 use crate::books::packets::PacketBook;
+use crate::books::replaced::Replaced;
 use crate::books::Book;
 use crate::lab::director::Director;
+use crate::lab::replacement::Replacement;
 use crate::lab::status::Status;
 use crate::lab::{Failure, REPLICAS};
 use crate::links::packet::Packet;
@@ -15,13 +17,21 @@ pub struct Observation {
     looks: Vec<Look>,
     watcher: Option<Watcher>,
     clock_speed: u32,
+    replaced: Vec<Replaced>,
 }
 
 impl Observation {
     /// Begins to look at a director whose clock runs so fast.
     pub fn begin(director: &Arc<Director>, clock_speed: u32) -> Observation {
         let watcher = Some(Watcher::start(director.clone()));
-        Observation { looks: Vec::new(), watcher, clock_speed }
+        Observation { looks: Vec::new(), watcher, clock_speed, replaced: Vec::new() }
+    }
+
+    /// Lets a new process of the director follow the one that runs. What it says of that is held against the packets in the end.
+    pub fn replace(&mut self, director: &Director, how: Replacement) -> Result<Replaced, Failure> {
+        let replaced = Replaced::replace(director, how)?;
+        self.replaced.push(replaced);
+        Ok(replaced)
     }
 
     /// Holds every count that was ever read against the packets that the director was handed and wrote.
@@ -30,6 +40,7 @@ impl Observation {
         let clock = Clock::that_fits(&looks, self.clock_speed)?;
         let book = PacketBook::read(packets, &clock)?;
         let exact = book.check(&looks, &clock)?;
+        self.replaced.iter().try_for_each(|replaced| replaced.check(&book, &clock))?;
         timeline.tell(format!(
             "{} counts were read, and each is what the packets say (for {exact} of them only one number is right)",
             looks.len() * REPLICAS
@@ -51,6 +62,12 @@ impl Book for Observation {
 
     /// The packets tell it.
     fn ended(&mut self, _: u16, _: u32, _: u32) {}
+
+    /// The packets tell it.
+    fn crowd_came(&mut self, _: Vec<usize>) {}
+
+    /// The packets tell it.
+    fn crowd_went(&mut self, _: u32) {}
 
     fn close(&mut self) -> Result<(), Failure> {
         let watched = self.watcher.take().map(Watcher::finish).transpose()?;

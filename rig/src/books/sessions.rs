@@ -67,22 +67,20 @@ impl Book for SessionBook {
         open.expect("the connection was opened").ended = Some(Last { before, after });
     }
 
+    fn crowd_came(&mut self, servers: Vec<usize>) {
+        self.crowds.push(Crowd { servers, ended: None });
+    }
+
+    fn crowd_went(&mut self, after: u32) {
+        self.crowds.iter_mut().for_each(|crowd| crowd.ended = crowd.ended.or(Some(after)));
+    }
+
     fn close(&mut self) -> Result<(), Failure> {
         Ok(())
     }
 }
 
 impl SessionBook {
-    /// From now on connections come and go on these servers.
-    pub fn crowd_came(&mut self, servers: Vec<usize>) {
-        self.crowds.push(Crowd { servers, ended: None });
-    }
-
-    /// All connections of the crowds have ended by that clock.
-    pub fn crowd_went(&mut self, after: u32) {
-        self.crowds.iter_mut().for_each(|crowd| crowd.ended = crowd.ended.or(Some(after)));
-    }
-
     /// What the server's count may be at that clock.
     pub fn bounds(&self, server: usize, clock: u32) -> Bounds {
         let count = |counts: fn(&Entry, u32) -> bool| {

@@ -5,6 +5,7 @@
 
 use super::service::{counts, Service};
 use crate::books::observation::Observation;
+use crate::lab::director::Options;
 use crate::lab::network::{gateway, server};
 use crate::lab::status::Standing;
 use crate::lab::{ensure, wait_for, Failure, Lab, REPLICAS};
@@ -34,7 +35,7 @@ const PATIENCE: Duration = Duration::from_secs(60);
 /// Runs the drill.
 pub fn run(lab: &Lab, timeline: &Timeline) -> Result<(), Failure> {
     timeline.title("A replica dies without a word");
-    let mut service = Service::observe(lab, timeline, CLOCK_SPEED)?;
+    let mut service = Service::observe(lab, timeline, &Options::at_speed(CLOCK_SPEED))?;
     lab.output("client", SYSCTL, &["-q", "-w", RETRIES])?;
     service.open_on_each(EACH)?;
     let mut drill = Drill { lab, timeline, service };

@@ -8,6 +8,7 @@
 
 use super::service::Service;
 use crate::books::observation::Observation;
+use crate::lab::director::Options;
 use crate::lab::status::Standing;
 use crate::lab::{ensure, Failure, Lab, REPLICAS};
 use crate::links::impairment::{Impaired, Impairment, Plan as Links};
@@ -43,7 +44,7 @@ const CROWD: Plan = Plan { name: "crowd", clients: 2, reconnect: true, rate: 20 
 /// Runs the drill; the seed decides what becomes of which packet.
 pub fn run(lab: &Lab, timeline: &Timeline, seed: u64) -> Result<(), Failure> {
     timeline.title("Packets are lost, duplicated and reordered on all links");
-    let mut service = Service::observe(lab, timeline, CLOCK_SPEED)?;
+    let mut service = Service::observe(lab, timeline, &Options::at_speed(CLOCK_SPEED))?;
     let impairment =
         Impairment::start(lab, REPLICAS, Links { seed, rates: RATES, dropping: DROPPING })?;
     let Rates { loss, duplicate, reorder } = RATES;

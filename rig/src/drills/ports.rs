@@ -9,6 +9,7 @@ use crate::books::both::Both;
 use crate::books::observation::Observation;
 use crate::books::sessions::SessionBook;
 use crate::books::FINISHED;
+use crate::lab::director::Options;
 use crate::lab::status::Status;
 use crate::lab::{ensure, network, Failure, Lab, REPLICAS};
 use crate::load::payments::Client;
@@ -47,7 +48,8 @@ impl Pace {
 /// Runs the drill.
 pub fn run(lab: &Lab, timeline: &Timeline, pace: Pace) -> Result<(), Failure> {
     timeline.title("Ports come back early, while a replica is drained");
-    let mut service = Service::start(lab, timeline, pace.clock_speed, |director| Both {
+    let options = Options::at_speed(pace.clock_speed);
+    let mut service = Service::start(lab, timeline, &options, |director| Both {
         sessions: SessionBook::default(),
         observation: Observation::begin(director, pace.clock_speed),
     })?;

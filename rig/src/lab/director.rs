@@ -1,20 +1,26 @@
 //! The live director in its namespace: `nidhaagufd`, and what `nidhaagufctl` says of it.
 
-use crate::lab::network::{balanced, DEVICE, SERVER_PORT, VIRTUAL, VIRTUAL_PORT};
+use crate::lab::network::{self, balanced, DEVICE, SERVER_PORT, VIRTUAL, VIRTUAL_PORT};
+use crate::lab::replacement::{Handover, Replacement};
 use crate::lab::status::Status;
 use crate::lab::{ensure, fail, output, Failure, Lab, Running, SIGTERM};
 use programs::{NIDHAAGUFCTL, NIDHAAGUFD};
 use std::ffi::OsString;
 use std::fmt::Write;
 use std::fs;
-use std::io::{BufRead, BufReader};
+use std::io::{BufRead, BufReader, ErrorKind};
 use std::path::{Path, PathBuf};
 use std::process::Stdio;
-use std::sync::mpsc;
+use std::sync::{mpsc, RwLock, RwLockWriteGuard};
 use std::time::Duration;
 
 /// How long the director may take to start or to end.
 const PATIENCE: Duration = Duration::from_secs(20);
+/// Its files in the directory of the run.
+const CONFIGURATION: &str = "director.conf";
+const SOCKET: &str = "director.sock";
+/// Where it leaves its state when it ends, unless the configuration says otherwise.
+const STATE: &str = "director.sock.state";
 
 /// How a director is set up.
 #[derive(Clone, Debug)]
@@ -27,52 +33,86 @@ pub struct Options {
     pub weights: Vec<u16>,
     /// How many times as fast as real time its clock runs.
     pub clock_speed: u32,
+    /// Whether its device is made beforehand, and stays when it ends.
+    pub device_stays: bool,
     /// The folder of another build of it, in place of the one here.
     pub build: Option<PathBuf>,
 }
 
 impl Default for Options {
     fn default() -> Options {
-        let scheduler = "least-connection";
-        Options { scheduler, slots: 4096, weights: vec![1, 1, 1], clock_speed: 1, build: None }
+        Options {
+            scheduler: "least-connection",
+            slots: 4096,
+            weights: vec![1, 1, 1],
+            clock_speed: 1,
+            device_stays: false,
+            build: None,
+        }
+    }
+}
+
+impl Options {
+    /// The default, with a clock that runs so fast.
+    pub fn at_speed(clock_speed: u32) -> Options {
+        Options { clock_speed, ..Options::default() }
     }
 }
 
 /// A running director.
 #[derive(Debug)]
 pub struct Director {
-    running: Running,
-    socket: PathBuf,
+    /// Whoever asks holds it for reading, and a restart for writing: nobody asks while nobody serves.
+    running: RwLock<Running>,
+    lab: Lab,
+    options: Options,
 }
 
 impl Director {
     /// Writes the configuration, starts `nidhaagufd` and waits until it serves. Its log is `director.log`.
     pub fn start(lab: &Lab, options: &Options) -> Result<Director, Failure> {
-        let (file, socket) = (lab.run.join("director.conf"), lab.run.join("director.sock"));
-        fs::write(&file, configuration(options, &socket.display().to_string()))?;
-        let mut command = lab.command("director", NIDHAAGUFD);
-        if let Some(folder) = &options.build {
-            command.env("PATH", path_beginning_with(folder)?);
+        let socket = lab.run.join(SOCKET).display().to_string();
+        fs::write(lab.run.join(CONFIGURATION), configuration(options, &socket))?;
+        remove_state(lab)?;
+        if options.device_stays {
+            network::add_device(lab)?;
         }
-        command
-            .arg("--config")
-            .arg(&file)
-            .args(["--clock-speed", &options.clock_speed.to_string()]);
-        command.stdout(Stdio::piped()).stderr(lab.log("director.log")?);
-        let mut running = Running::start(&mut command)?;
-        let lines =
-            BufReader::new(running.child.stdout.take().expect("a pipe was asked for")).lines();
-        let (sender, receiver) = mpsc::channel();
-        // It reads on to the end, so that the director can always write.
-        std::thread::spawn(move || {
-            lines.map_while(Result::ok).for_each(|line| drop(sender.send(line)))
-        });
-        let log = || fs::read_to_string(lab.run.join("director.log")).unwrap_or_default();
-        match receiver.recv_timeout(PATIENCE) {
-            Ok(line) if line.starts_with("ready: ") => Ok(Director { running, socket }),
-            Ok(line) => fail(format!("the director said '{line}' and not that it is ready")),
-            Err(_) => fail(format!("the director didn't get ready: {}", log().trim())),
-        }
+        let (running, said) = launch(lab, options, &[])?;
+        ensure(said.is_empty(), format!("the first director said {said:?}"))?;
+        Ok(Director { running: RwLock::new(running), lab: lab.clone(), options: options.clone() })
+    }
+
+    /// Lets a new process follow the one that runs, which must leave in order. Gives what the new one says of it.
+    pub fn replace(&self, how: Replacement) -> Result<Handover, Failure> {
+        let said = match how {
+            Replacement::TakeOver => self.take_over()?,
+            Replacement::Restart => self.restart()?,
+        };
+        let handover = said.first().filter(|_| said.len() == 1).and_then(|line| how.read(line));
+        handover.ok_or_else(|| Failure(format!("after a {how} the director said {said:?}")))
+    }
+
+    /// All may ask meanwhile: there is always one that answers.
+    fn take_over(&self) -> Result<Vec<String>, Failure> {
+        let (new, said) = launch(&self.lab, &self.options, &["--take-over"])?;
+        let mut old = std::mem::replace(&mut *self.exclusively(), new);
+        wait_until_left(&mut old, "after another took over")?;
+        Ok(said)
+    }
+
+    /// Whoever asks meanwhile waits for the new process.
+    fn restart(&self) -> Result<Vec<String>, Failure> {
+        let mut running = self.exclusively();
+        end(&mut running)?;
+        let (new, said) = launch(&self.lab, &self.options, &[])?;
+        *running = new;
+        let used = !self.lab.run.join(STATE).exists();
+        ensure(used, "the state is still in its file after the restart")?;
+        Ok(said)
+    }
+
+    fn exclusively(&self) -> RwLockWriteGuard<'_, Running> {
+        self.running.write().expect(UNBROKEN)
     }
 
     /// Its table, at its clock.
@@ -110,15 +150,61 @@ impl Director {
     }
 
     /// Ends it by SIGTERM; it must leave in order.
-    pub fn stop(mut self) -> Result<(), Failure> {
-        self.running.signal(SIGTERM)?;
-        let status = self.running.wait(PATIENCE)?;
-        ensure(status.success(), format!("the director ended with {status} after SIGTERM"))
+    pub fn stop(self) -> Result<(), Failure> {
+        end(&mut self.exclusively())
     }
 
     fn ask(&self, args: &[&str]) -> Result<String, Failure> {
+        let _served = self.running.read().expect(UNBROKEN);
         let mut command = NIDHAAGUFCTL.command();
-        output(command.arg("--socket").arg(&self.socket).args(args))
+        output(command.arg("--socket").arg(self.lab.run.join(SOCKET)).args(args))
+    }
+}
+
+/// Nothing is done with the lock held that can panic.
+const UNBROKEN: &str = "no thread broke off with the director's lock";
+
+/// Starts the program, and waits until it serves. Gives what it said before.
+fn launch(lab: &Lab, options: &Options, flags: &[&str]) -> Result<(Running, Vec<String>), Failure> {
+    let mut command = lab.command("director", NIDHAAGUFD);
+    if let Some(folder) = &options.build {
+        command.env("PATH", path_beginning_with(folder)?);
+    }
+    command.arg("--config").arg(lab.run.join(CONFIGURATION));
+    command.args(["--clock-speed", &options.clock_speed.to_string()]).args(flags);
+    command.stdout(Stdio::piped()).stderr(lab.log("director.log")?);
+    let mut running = Running::start(&mut command)?;
+    let lines = BufReader::new(running.child.stdout.take().expect("a pipe was asked for")).lines();
+    let (sender, receiver) = mpsc::channel();
+    // It reads on to the end, so that the director can always write.
+    std::thread::spawn(move || {
+        lines.map_while(Result::ok).for_each(|line| drop(sender.send(line)))
+    });
+    let mut said = Vec::new();
+    while let Ok(line) = receiver.recv_timeout(PATIENCE) {
+        if line.starts_with("ready: ") {
+            return Ok((running, said));
+        }
+        said.push(line);
+    }
+    fail(format!("the director didn't get ready, and said {said:?}"))
+}
+
+fn end(running: &mut Running) -> Result<(), Failure> {
+    running.signal(SIGTERM)?;
+    wait_until_left(running, "after SIGTERM")
+}
+
+fn wait_until_left(running: &mut Running, when: &str) -> Result<(), Failure> {
+    let status = running.wait(PATIENCE)?;
+    ensure(status.success(), format!("the director ended with {status} {when}"))
+}
+
+/// What an earlier director has left is not for one that begins.
+fn remove_state(lab: &Lab) -> Result<(), Failure> {
+    match fs::remove_file(lab.run.join(STATE)) {
+        Err(error) if error.kind() != ErrorKind::NotFound => Err(error.into()),
+        _ => Ok(()),
     }
 }
 

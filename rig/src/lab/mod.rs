@@ -5,6 +5,7 @@ mod failure;
 pub mod network;
 pub mod postgres;
 mod process;
+pub mod replacement;
 pub mod status;
 
 pub use failure::{ensure, fail, wait_for, Failure};

@@ -61,6 +61,11 @@ pub fn make(lab: &Lab, servers: usize) -> Result<(), Failure> {
     Ok(())
 }
 
+/// Makes the director's device, which then stays when the director ends, with its routes.
+pub fn add_device(lab: &Lab) -> Result<(), Failure> {
+    lab.output("director", IP, &["tuntap", "add", "dev", DEVICE, "mode", "tun"]).map(|_| ())
+}
+
 /// Brings the director's device up, and leads to it what goes to the virtual address and what servers send back from
 /// their balanced addresses.
 pub fn attach(lab: &Lab, servers: usize) -> Result<(), Failure> {

@@ -3,6 +3,7 @@
 use crate::lab::network::balanced;
 use crate::lab::{fail, Failure, Lab};
 use crate::load::session::Session;
+use std::time::{Duration, Instant};
 
 /// Payments of one client have numbers from its own range of this size.
 const RANGE: u32 = 1_000_000;
@@ -15,6 +16,8 @@ pub struct Client {
     pub statements: u32,
     /// Payments that are committed.
     pub committed: u32,
+    /// The longest time that an answer took, since this was last set to zero.
+    pub longest: Duration,
     first: u32,
     open: bool,
 }
@@ -23,7 +26,8 @@ impl Client {
     /// Opens a session for the client of that number.
     pub fn open(lab: &Lab, number: u32) -> Result<Client, Failure> {
         let session = Session::open(lab)?;
-        Ok(Client { session, statements: 1, committed: 0, first: number * RANGE, open: false })
+        let (first, longest) = (number * RANGE, Duration::ZERO);
+        Ok(Client { session, statements: 1, committed: 0, longest, first, open: false })
     }
 
     /// Begins a transaction and writes a payment in it.
@@ -81,7 +85,9 @@ impl Client {
         let server = self.session.server;
         let whose =
             |words: String| Failure(format!("a session that began on replica {server}: {words}"));
+        let begin = Instant::now();
         let rows = self.session.ask(sql).map_err(|failure| whose(failure.0))?;
+        self.longest = self.longest.max(begin.elapsed());
         if rows != want {
             return fail(whose(format!("'{sql}' gave {rows:?} and not {want:?}")).0);
         }

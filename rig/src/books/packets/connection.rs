@@ -1,6 +1,6 @@
 //! A connection in the book of the packets, and how long it counts.
 
-use crate::books::looks::{Clock, Look};
+use crate::books::looks::{Clock, Reading};
 use crate::books::{FINISHED, IDLE};
 
 /// When the director took a packet: after it was handed over and before it was written.
@@ -66,15 +66,15 @@ impl Connection {
         format!("{} seen last at clock {last}, {how}", self.client)
     }
 
-    /// The least and the greatest number that it can add to its server's count at a look.
-    pub fn bounds(&self, look: &Look, clock: &Clock) -> (u32, u32) {
+    /// The least and the greatest number that it can add to a count that was read so.
+    pub fn bounds(&self, reading: &Reading, clock: &Clock) -> (u32, u32) {
         let (first, last) = clock.seconds(self.last.handed, self.last.written);
         let limit = self.limit();
-        let shown = i64::from(look.status.clock);
-        let opened = (self.opened.written <= look.before, self.opened.handed <= look.after);
+        let shown = i64::from(reading.clock);
+        let opened = (self.opened.written <= reading.before, self.opened.handed <= reading.after);
         let heard = (shown < first + limit, shown < last + limit);
         let kept = self.removed.map_or((true, true), |(_, moment)| {
-            (moment.handed > look.after, moment.written >= look.before)
+            (moment.handed > reading.after, moment.written >= reading.before)
         });
         (u32::from(opened.0 && heard.0 && kept.0), u32::from(opened.1 && heard.1 && kept.1))
     }

@@ -10,7 +10,7 @@ mod connection;
 #[cfg(test)]
 mod tests;
 
-use crate::books::looks::{Clock, Look};
+use crate::books::looks::{Clock, Look, Reading};
 use crate::lab::{ensure, fail, Failure};
 use crate::links::packet::{server_of, Packet};
 use connection::{Connection, Moment, Removal};
@@ -35,7 +35,7 @@ pub struct PacketBook {
     newest: HashMap<String, usize>,
     handed: HashMap<String, VecDeque<Packet>>,
     /// Packets that the director was handed and never wrote.
-    pub refused: usize,
+    pub refused: Vec<Packet>,
 }
 
 impl PacketBook {
@@ -50,7 +50,7 @@ impl PacketBook {
                 book.handed.entry(packet.client().into()).or_default().push_back(packet.clone());
             }
         }
-        book.refused += book.handed.values().map(VecDeque::len).sum::<usize>();
+        book.refused.extend(book.handed.drain().flat_map(|(_, packets)| packets));
         Ok(book)
     }
 
@@ -63,8 +63,8 @@ impl PacketBook {
         let Some(place) = place else {
             return fail(format!("the director wrote what it wasn't handed: {packet}"));
         };
-        self.refused += place;
-        let handed = waiting.drain(..=place).next_back().expect("it is at that place");
+        self.refused.extend(waiting.drain(..place));
+        let handed = waiting.pop_front().expect("it was at that place");
         let moment = Moment { handed: handed.time, written: packet.time };
         let Some(server) = to.or(server_of(&handed.source)) else {
             return fail(format!("a packet from no server was taken: {handed}"));
@@ -163,7 +163,8 @@ impl PacketBook {
         let mut exact = 0;
         for look in looks {
             for row in &look.status.rows {
-                let (least, most) = self.bounds(row.number, look, clock);
+                let (least, most) =
+                    self.bounds(&look.reading(), clock, |server| server == row.number);
                 let (count, at) = (row.connections, look.status.clock);
                 let words = format!(
                     "replica {} reads {count} at clock {at}, and the packets say ",
@@ -183,9 +184,15 @@ impl PacketBook {
         Ok(exact)
     }
 
-    fn bounds(&self, server: usize, look: &Look, clock: &Clock) -> (u32, u32) {
-        let here = self.connections.iter().filter(|connection| connection.server == server);
-        here.map(|connection| connection.bounds(look, clock))
+    /// The least and the greatest number that the connections of these servers can have been when the clock was read so.
+    pub fn bounds(
+        &self,
+        reading: &Reading,
+        clock: &Clock,
+        is_meant: impl Fn(usize) -> bool,
+    ) -> (u32, u32) {
+        let here = self.connections.iter().filter(|connection| is_meant(connection.server));
+        here.map(|connection| connection.bounds(reading, clock))
             .fold((0, 0), |(a, b), (c, d)| (a + c, b + d))
     }
 

@@ -1,6 +1,8 @@
 //! Small captures, and the counts that they allow.
 
 use super::*;
+use crate::books::replaced::Replaced;
+use crate::lab::replacement::Replacement;
 use crate::lab::status::Status;
 
 const CLIENT: &str = "10.0.0.1.40000";
@@ -128,6 +130,23 @@ fn what_is_not_written_was_refused_and_what_was_not_handed_is_not_written() {
     let [refused, _] = taken(9.1, 0, true, "F.");
     let book =
         PacketBook::read(&[refused.clone(), handed, written.clone(), refused], &clock()).unwrap();
-    assert_eq!((book.refused, book.opened(0)), (2, 1));
+    assert_eq!((book.refused.len(), book.opened(0)), (2, 1));
     assert!(PacketBook::read(&[written], &clock()).is_err());
+}
+
+#[test]
+fn a_replacement_has_the_connections_of_the_packets_and_a_take_over_loses_none() {
+    let [lost, _] = taken(20.3, 0, true, ".");
+    let book = PacketBook::read(&[&taken(10.1, 0, true, "S")[..], &[lost]].concat(), &clock());
+    let book = book.unwrap();
+    let check = |how, before, connections| {
+        let reading = Reading { before, after: before + 0.2, clock: before as u32 };
+        Replaced { how, reading, connections }.check(&book, &clock()).is_ok()
+    };
+    for connections in [0, 1, 2] {
+        let right = connections == 1;
+        assert_eq!(check(Replacement::TakeOver, 19.2, connections), right, "{connections}");
+        assert_eq!(check(Replacement::Restart, 20.2, connections), right, "{connections}");
+    }
+    assert!(!check(Replacement::TakeOver, 20.2, 1), "a packet was lost");
 }

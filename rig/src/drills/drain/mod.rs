@@ -3,10 +3,11 @@
 mod unplug;
 mod zero;
 
-use super::service::{counts, listed, Kept, Service};
+use super::service::{counts, listed, Service};
 use crate::books::sessions::SessionBook;
-use crate::lab::{ensure, network, Failure, Lab, REPLICAS};
-use crate::load::pgbench::{Load, Plan};
+use crate::lab::director::Options;
+use crate::lab::{network, Failure, Lab, REPLICAS};
+use crate::load::pgbench::Plan;
 use crate::timeline::Timeline;
 
 /// The replica that is drained.
@@ -41,14 +42,15 @@ impl Pace {
 /// Runs the drill.
 pub fn run(lab: &Lab, timeline: &Timeline, pace: Pace) -> Result<(), Failure> {
     timeline.title("A replica is drained, unplugged at zero and put back");
-    let service = Service::start(lab, timeline, pace.clock_speed, |_| SessionBook::default())?;
+    let options = Options::at_speed(pace.clock_speed);
+    let service = Service::start(lab, timeline, &options, |_| SessionBook::default())?;
     network::send_once(lab, REPLICAS)?;
     let mut drill = Drill { service, timeline, pace };
     drill.service.open_on_each(EACH)?;
-    let kept = drill.start_kept()?;
+    let kept = drill.service.start_kept(KEPT, DRAINED)?;
     drill.drain()?;
     let before = drill.service.connections()?;
-    let crowd = drill.start_crowd()?;
+    let crowd = drill.service.start_crowd(CROWD, DRAINED)?;
     drill.go_on()?;
     drill.open_newcomers()?;
     drill.end_old_sessions(kept)?;
@@ -78,19 +80,6 @@ impl Drill<'_> {
         Ok(())
     }
 
-    fn start_kept(&mut self) -> Result<Kept, Failure> {
-        let kept = self.service.start_kept(KEPT)?;
-        let here = kept.connections.iter().filter(|(server, _)| *server == DRAINED).count();
-        ensure(here > 0, format!("the load has no connection on replica {DRAINED}"))?;
-        let status = self.service.look()?;
-        self.tell(format!(
-            "pgbench with {} connections that it keeps, {here} of them on replica {DRAINED}: {}",
-            KEPT.clients,
-            counts(&status)
-        ));
-        Ok(kept)
-    }
-
     fn drain(&mut self) -> Result<(), Failure> {
         let row = self.service.drain(DRAINED)?;
         self.tell(format!(
@@ -98,16 +87,6 @@ impl Drill<'_> {
             row.connections
         ));
         Ok(())
-    }
-
-    fn start_crowd(&mut self) -> Result<Load, Failure> {
-        let others = (0..REPLICAS).filter(|&server| server != DRAINED).collect();
-        let crowd = self.service.start_crowd(CROWD, others)?;
-        self.tell(format!(
-            "pgbench with a new connection for each transaction, {} a second",
-            CROWD.rate
-        ));
-        Ok(crowd)
     }
 
     /// The sessions go on in their open transactions, commit, and find their rows.
@@ -119,7 +98,7 @@ impl Drill<'_> {
             "all committed; the next query in each session finds its row, on the same replica",
         );
         self.work()?;
-        let payments = self.check_payments()?;
+        let payments = self.service.check_all_payments()?;
         let counts = counts(&self.service.look()?);
         self.tell(format!("{payments} payments so far, none lost; {counts}"));
         Ok(())
@@ -130,11 +109,5 @@ impl Drill<'_> {
         self.service.work()?;
         self.tell(format!("{} new sessions, on replicas {}", servers.len(), listed(&servers)));
         Ok(())
-    }
-
-    /// Asks each running replica whether it has every payment, and gives their sum.
-    fn check_payments(&self) -> Result<u32, Failure> {
-        let running = self.service.replicas.iter().filter(|replica| replica.is_running());
-        running.map(|replica| self.service.check_payments(replica.number)).sum()
     }
 }

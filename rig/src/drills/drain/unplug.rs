@@ -43,7 +43,7 @@ impl Drill<'_> {
 
     /// All sessions end, every count falls to zero in its time, and all that left the director is verified.
     pub fn close(mut self) -> Result<(), Failure> {
-        let payments = self.check_payments()?;
+        let payments = self.service.check_all_payments()?;
         let clock = self.service.end_all()?;
         self.tell(format!("every replica reads 0 at clock {clock}, none too early or too late"));
         let openings = self.service.check_openings()?;

@@ -9,6 +9,11 @@ impl<B: Book> Service<'_, B> {
     /// Drains a replica that has connections, and gives its row.
     pub fn drain(&mut self, server: usize) -> Result<Row, Failure> {
         self.director.drain(server)?;
+        self.check_draining(server)
+    }
+
+    /// A drained replica that has connections must still be drained. Gives its row.
+    pub fn check_draining(&mut self, server: usize) -> Result<Row, Failure> {
         let row = self.look()?.rows.swap_remove(server);
         let draining = (row.weight, row.standing) == (0, Standing::Draining);
         ensure(draining, format!("after the drain: {row:?}"))?;
@@ -38,8 +43,17 @@ impl<B: Book> Service<'_, B> {
         ensure(sockets <= count as usize, words)
     }
 
-    /// The drained replica must be free by what the director says of it; no connection has come to it since the drain, by its own
-    /// log, and it knows of no session. Gives how many the others have received.
+    /// No connection may have come to the drained replica since the drain, by its own log. Gives how many the others have received.
+    pub fn check_unvisited(&self, drained: usize, before: &[usize]) -> Result<usize, Failure> {
+        let now = self.connections()?;
+        let fresh: Vec<usize> = now.iter().zip(before).map(|(now, before)| now - before).collect();
+        let words = format!("replica {drained} received a connection after its drain");
+        ensure(fresh[drained] == 0, words)?;
+        Ok(fresh.iter().sum())
+    }
+
+    /// The drained replica must be free by what the director says of it; no connection has come to it since the drain, and it
+    /// knows of no session. Gives how many the others have received.
     pub fn check_free(&mut self, drained: usize, before: &[usize]) -> Result<usize, Failure> {
         let row = self.look()?.rows.swap_remove(drained);
         let free = (row.connections, row.standing) == (0, Standing::MayBeUnplugged);
@@ -48,10 +62,6 @@ impl<B: Book> Service<'_, B> {
         self.check_sockets(&row)?;
         let left = self.replicas[drained].sessions()?;
         ensure(left == 0, format!("replica {drained} itself knows of {left} sessions"))?;
-        let now = self.connections()?;
-        let fresh: Vec<usize> = now.iter().zip(before).map(|(now, before)| now - before).collect();
-        let words = format!("replica {drained} received a connection after its drain");
-        ensure(fresh[drained] == 0, words)?;
-        Ok(fresh.iter().sum())
+        self.check_unvisited(drained, before)
     }
 }

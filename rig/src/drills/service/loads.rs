@@ -1,10 +1,9 @@
-//! Loads by pgbench whose connections are in the book of the sessions.
+//! Loads by pgbench, whose connections are in the book.
 
-use super::{Service, PATIENCE};
-use crate::books::sessions::SessionBook;
+use super::{counts, Service, PATIENCE};
 use crate::books::Book;
 use crate::lab::postgres::Logged;
-use crate::lab::{network, wait_for, Failure, REPLICAS};
+use crate::lab::{ensure, network, wait_for, Failure, REPLICAS};
 use crate::load::pgbench::{Load, Plan, Report};
 
 /// A load with connections that it keeps.
@@ -14,10 +13,31 @@ pub struct Kept {
     pub connections: Vec<(usize, u16)>,
 }
 
-impl Service<'_, SessionBook> {
-    /// Starts a load that keeps its connections, and waits until all are in the book. Its first connection ends at once: by it
-    /// pgbench asks for the database's settings.
-    pub fn start_kept(&mut self, plan: Plan) -> Result<Kept, Failure> {
+impl Kept {
+    /// Fails if it has ended by itself.
+    pub fn check(&mut self) -> Result<(), Failure> {
+        self.load.check()
+    }
+}
+
+impl<B: Book> Service<'_, B> {
+    /// Starts a load that keeps its connections, some of them on the replica that will be drained.
+    pub fn start_kept(&mut self, plan: Plan, drained: usize) -> Result<Kept, Failure> {
+        let kept = self.open_kept(plan)?;
+        let here = kept.connections.iter().filter(|(server, _)| *server == drained).count();
+        ensure(here > 0, format!("the load has no connection on replica {drained}"))?;
+        let status = self.look()?;
+        self.timeline.tell(format!(
+            "pgbench with {} connections that it keeps, {here} of them on replica {drained}: {}",
+            plan.clients,
+            counts(&status)
+        ));
+        Ok(kept)
+    }
+
+    /// Starts such a load, and waits until all its connections are in the book. The first one ends at once: by it pgbench asks
+    /// for the database's settings.
+    fn open_kept(&mut self, plan: Plan) -> Result<Kept, Failure> {
         let before = self.look()?.clock;
         let known = self.connections()?;
         let mut load = Load::start(self.lab, plan)?;
@@ -54,8 +74,10 @@ impl Service<'_, SessionBook> {
         Ok(report)
     }
 
-    /// Starts a load that opens a connection for each transaction, and waits until each of these replicas has received some.
-    pub fn start_crowd(&mut self, plan: Plan, servers: Vec<usize>) -> Result<Load, Failure> {
+    /// Starts a load that opens a connection for each transaction, and waits until each replica but the drained one has received
+    /// some.
+    pub fn start_crowd(&mut self, plan: Plan, drained: usize) -> Result<Load, Failure> {
+        let servers: Vec<usize> = (0..REPLICAS).filter(|&server| server != drained).collect();
         let before = self.connections()?;
         self.book.crowd_came(servers.clone());
         let mut crowd = Load::start(self.lab, plan)?;
@@ -64,6 +86,9 @@ impl Service<'_, SessionBook> {
             let now = self.connections()?;
             Ok(servers.iter().all(|&server| now[server] > before[server]).then_some(()))
         })?;
+        let rate = plan.rate;
+        self.timeline
+            .tell(format!("pgbench with a new connection for each transaction, {rate} a second"));
         Ok(crowd)
     }
 

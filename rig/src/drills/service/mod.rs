@@ -47,20 +47,20 @@ impl<'a, B: Book> Service<'a, B> {
     pub fn start(
         lab: &'a Lab,
         timeline: &'a Timeline,
-        clock_speed: u32,
+        options: &Options,
         book: impl FnOnce(&Arc<Director>) -> B,
     ) -> Result<Service<'a, B>, Failure> {
         network::make(lab, REPLICAS)?;
         let replicas = Postgres::start_all(lab, REPLICAS)?;
         timeline.tell(format!("{REPLICAS} replicas run: PostgreSQL, each in a network namespace"));
-        let options = Options { clock_speed, ..Options::default() };
-        let director = Arc::new(Director::start(lab, &options)?);
+        let director = Arc::new(Director::start(lab, options)?);
         network::attach(lab, REPLICAS)?;
         let captures = Captures::start(lab, REPLICAS)?;
         timeline.tell(format!(
             "the director serves {VIRTUAL}:{VIRTUAL_PORT}, {}; tcpdump is on its device and on all its links",
             options.scheduler
         ));
+        let clock_speed = options.clock_speed;
         timeline.tell(format!(
             "its clock runs {clock_speed} times as fast: the {FINISHED} s for which a finished connection counts take {} s",
             FINISHED / clock_speed
@@ -175,6 +175,12 @@ impl<'a, B: Book> Service<'a, B> {
         let words = format!("replica {server} has {found:?} payments and not {want}");
         ensure(found == [want.to_string()], words)?;
         Ok(want)
+    }
+
+    /// Asks each running replica whether it has every payment, and gives their sum.
+    pub fn check_all_payments(&self) -> Result<u32, Failure> {
+        let running = self.replicas.iter().filter(|replica| replica.is_running());
+        running.map(|replica| self.check_payments(replica.number)).sum()
     }
 
     /// How many connections of the client each replica has had so far, by its own log.

@@ -2,18 +2,19 @@
 
 use super::Service;
 use crate::books::observation::{Observation, Verdict};
+use crate::lab::director::Options;
 use crate::lab::{Failure, Lab};
 use crate::timeline::Timeline;
 
 impl<'a> Service<'a, Observation> {
-    /// Starts all, with a director whose clock runs so fast.
+    /// Starts all, with a director that is set up so.
     pub fn observe(
         lab: &'a Lab,
         timeline: &'a Timeline,
-        clock_speed: u32,
+        options: &Options,
     ) -> Result<Service<'a, Observation>, Failure> {
-        Service::start(lab, timeline, clock_speed, |director| {
-            Observation::begin(director, clock_speed)
+        Service::start(lab, timeline, options, |director| {
+            Observation::begin(director, options.clock_speed)
         })
     }
 
