@@ -1,22 +1,22 @@
 //! Runs a drill in the laboratory that `rig/drill` has made.
 
 use rig::drills::compare::{self, profile, Order};
-use rig::drills::{death, drain, impaired, ports};
+use rig::drills::{death, drain, impaired, ports, upgrade};
 use rig::lab::{fail, Failure, Lab};
 use rig::timeline::Timeline;
 use std::process::ExitCode;
 
 const USAGE: &str =
-    "usage: rig drain [--short] | ports [--short] | impaired [SEED] | death | all | short |
+    "usage: rig drain [--short] | ports [--short] | upgrade [--short] | impaired [SEED] | death | all | short |
     compare [--rounds N] [--beside DIRECTORY] | profile [--beside DIRECTORY]";
 
 /// What becomes of which packet in the drill with bad links, unless another seed is given.
 const SEED: u64 = 1;
 
 /// The drills of `all`.
-const ALL: [&str; 4] = ["drain", "ports", "impaired", "death"];
+const ALL: [&str; 5] = ["drain", "ports", "upgrade", "impaired", "death"];
 /// The drills of `short`, each in its short form.
-const SHORT: [&str; 2] = ["drain", "ports"];
+const SHORT: [&str; 3] = ["drain", "ports", "upgrade"];
 
 fn main() -> ExitCode {
     let words: Vec<String> = std::env::args().skip(1).collect();
@@ -35,6 +35,12 @@ fn run(lab: &Lab, timeline: &Timeline, words: &[&str]) -> Result<(), Failure> {
         ["ports"] => in_part(lab, "ports", |part| ports::run(part, timeline, ports::Pace::FULL)),
         ["ports", "--short"] => {
             in_part(lab, "ports", |part| ports::run(part, timeline, ports::Pace::SHORT))
+        }
+        ["upgrade"] => {
+            in_part(lab, "upgrade", |part| upgrade::run(part, timeline, upgrade::Pace::FULL))
+        }
+        ["upgrade", "--short"] => {
+            in_part(lab, "upgrade", |part| upgrade::run(part, timeline, upgrade::Pace::SHORT))
         }
         ["impaired"] => in_part(lab, "impaired", |part| impaired::run(part, timeline, SEED)),
         ["impaired", seed] => {

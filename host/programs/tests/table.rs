@@ -6,8 +6,10 @@ use std::fs;
 use std::path::{Path, PathBuf};
 
 /// Who may start programs: all drills, one of them, the tests, the benchmark.
-const STARTERS: [&str; 9] =
-    ["drills", "drain", "ports", "impaired", "death", "compare", "profile", "tests", "bench"];
+const STARTERS: [&str; 10] = [
+    "drills", "drain", "ports", "upgrade", "impaired", "death", "compare", "profile", "tests",
+    "bench",
+];
 
 #[test]
 fn each_program_has_one_line_with_its_package_and_who_starts_it() {

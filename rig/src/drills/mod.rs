@@ -6,3 +6,4 @@ pub mod drain;
 pub mod impaired;
 pub mod ports;
 mod service;
+pub mod upgrade;
