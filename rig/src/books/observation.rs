@@ -7,7 +7,7 @@ use crate::books::Book;
 use crate::lab::director::Director;
 use crate::lab::replacement::Replacement;
 use crate::lab::status::Status;
-use crate::lab::{Failure, REPLICAS};
+use crate::lab::{ensure, Failure, REPLICAS};
 use crate::links::packet::Packet;
 use crate::timeline::Timeline;
 use std::sync::Arc;
@@ -40,12 +40,12 @@ impl Observation {
         let clock = Clock::that_fits(&looks, self.clock_speed)?;
         let book = PacketBook::read(packets, &clock)?;
         let exact = book.check(&looks, &clock)?;
-        self.replaced.iter().try_for_each(|replaced| replaced.check(&book, &clock))?;
         timeline.tell(format!(
             "{} counts were read, and each is what the packets say (for {exact} of them only one number is right)",
             looks.len() * REPLICAS
         ));
-        Ok(Verdict { book, clock, looks })
+        self.replaced.iter().try_for_each(|replaced| replaced.check(&book, &clock))?;
+        Ok(Verdict { book, clock, looks, replaced: self.replaced })
     }
 }
 
@@ -83,9 +83,26 @@ pub struct Verdict {
     pub book: PacketBook,
     clock: Clock,
     looks: Vec<Look>,
+    replaced: Vec<Replaced>,
 }
 
 impl Verdict {
+    /// Tells what was held against the packets where a process of the director followed another.
+    pub fn tell_replaced(&self, timeline: &Timeline) -> Result<(), Failure> {
+        let seen_by =
+            |look: &&Look| self.replaced.iter().any(|replaced| replaced.was_seen_by(look));
+        let (looks, times) = (self.looks.iter().filter(seen_by).count(), self.replaced.len());
+        let words = format!(
+            "{} of these counts were read while a process followed another",
+            looks * REPLICAS
+        );
+        ensure(looks >= times, format!("{words}, {times} times: the run shows nothing"))?;
+        timeline.tell(format!(
+            "{words}; each of the {times} told as many connections as the packets do, and no packet was lost at a take-over"
+        ));
+        Ok(())
+    }
+
     /// Tells when the count of that server was first read as zero, and when the last packet had come that it waited for.
     pub fn tell_zero(&self, server: usize, timeline: &Timeline) -> Result<(), Failure> {
         let count = |look: &&Look| look.status.rows[server].connections;

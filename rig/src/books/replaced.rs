@@ -1,6 +1,6 @@
 //! What a new process of the director said when it followed another, held against the packets.
 
-use crate::books::looks::{now, Clock, Reading};
+use crate::books::looks::{now, Clock, Look, Reading};
 use crate::books::packets::PacketBook;
 use crate::lab::director::Director;
 use crate::lab::replacement::Replacement;
@@ -24,6 +24,11 @@ impl Replaced {
         let handover = director.replace(how)?;
         let reading = Reading { before, after: now(), clock: handover.clock };
         Ok(Replaced { how, reading, connections: handover.connections })
+    }
+
+    /// Whether the look was taken while one process followed the other.
+    pub fn was_seen_by(&self, look: &Look) -> bool {
+        look.after >= self.reading.before && look.before <= self.reading.after
     }
 
     /// It must have gone on with the connections that the packets say; at a take-over the director must have written on all that

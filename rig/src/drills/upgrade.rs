@@ -200,6 +200,7 @@ impl Drill<'_> {
         let openings = self.service.check_openings()?;
         let (timeline, statements) = (self.timeline, self.service.statements);
         let verdict = self.service.judge(LEAST_PACKETS)?;
+        verdict.tell_replaced(timeline)?;
         timeline.tell(openings);
         timeline.tell(format!(
             "{statements} statements, each answered by the replica of its session; {payments} payments, none lost"
