@@ -25,22 +25,29 @@ const LEAST_PACKETS: usize = 5000;
 const KEPT: Plan = Plan { name: "kept", clients: REPLICAS, reconnect: false, rate: 100 };
 const CROWD: Plan = Plan { name: "crowd", clients: 2, reconnect: true, rate: 40 };
 
-/// How the drill takes its time.
+/// How the drill takes its time. The steps take longer than the 120 s of the director's clock for which a finished connection
+/// counts: so some end before a process is replaced, and are taken off after it.
 #[derive(Clone, Copy, Debug)]
 pub struct Pace {
     /// How many times as fast as real time the director's clock runs.
     pub clock_speed: u32,
-    /// How the director's process is replaced, again and again.
+    /// How long all work before the director's process is replaced, and after it.
+    pub around: Duration,
+    /// How it is replaced, again and again.
     pub steps: &'static [Replacement],
 }
 
 impl Pace {
     /// For the test command.
-    pub const SHORT: Pace =
-        Pace { clock_speed: 30, steps: &[TakeOver, TakeOver, Restart, TakeOver] };
+    pub const SHORT: Pace = Pace {
+        clock_speed: 30,
+        around: Duration::from_millis(600),
+        steps: &[TakeOver, TakeOver, Restart, TakeOver],
+    };
     /// For a person who follows it.
     pub const FULL: Pace = Pace {
         clock_speed: 8,
+        around: Duration::from_secs(1),
         steps: &[
             TakeOver, TakeOver, TakeOver, TakeOver, Restart, TakeOver, TakeOver, TakeOver, Restart,
             TakeOver, TakeOver, TakeOver, Restart,
@@ -54,7 +61,7 @@ pub fn run(lab: &Lab, timeline: &Timeline, pace: Pace) -> Result<(), Failure> {
     let options = Options { device_stays: true, ..Options::at_speed(pace.clock_speed) };
     let service = Service::observe(lab, timeline, &options)?;
     let (before, received, longest) = (Vec::new(), 0, Vec::new());
-    let mut drill = Drill { timeline, service, before, received, longest };
+    let mut drill = Drill { timeline, service, pace, before, received, longest };
     drill.open_sessions()?;
     let mut kept = drill.service.start_kept(KEPT, DRAINED)?;
     drill.drain()?;
@@ -75,6 +82,7 @@ pub fn run(lab: &Lab, timeline: &Timeline, pace: Pace) -> Result<(), Failure> {
 struct Drill<'a> {
     timeline: &'a Timeline,
     service: Service<'a, Observation>,
+    pace: Pace,
     /// How many connections each replica had had at the drain, by its log.
     before: Vec<usize>,
     /// How many connections came after the drain, so far.
@@ -108,14 +116,14 @@ impl Drill<'_> {
 
     /// All work for a while. Gives the longest time that a session waits for an answer where nothing happens.
     fn go_on(&mut self) -> Result<Duration, Failure> {
-        let ((), longest) = at_work(&mut self.service.clients, || Ok(()))?;
+        let ((), longest) = at_work(&mut self.service.clients, self.pace.around, || Ok(()))?;
         Ok(longest)
     }
 
     /// A new process follows the director's while all work. The drained replica stays drained.
     fn replace(&mut self, how: Replacement) -> Result<(), Failure> {
         let Service { clients, book, director, .. } = &mut self.service;
-        let ((replaced, took), longest) = at_work(clients, || {
+        let ((replaced, took), longest) = at_work(clients, self.pace.around, || {
             let begin = Instant::now();
             Ok((book.replace(director, how)?, begin.elapsed()))
         })?;

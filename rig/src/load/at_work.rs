@@ -6,23 +6,23 @@ use std::sync::atomic::{AtomicBool, Ordering};
 use std::thread::{self, ScopedJoinHandle};
 use std::time::Duration;
 
-/// How long they work before it begins, and after it is done.
-const AROUND: Duration = Duration::from_millis(500);
 /// Between two pieces of work of a session: it leaves the processor to others.
 const PAUSE: Duration = Duration::from_millis(10);
 
-/// Does something while every session works. Gives what came of it, and the longest time that a session waited for an answer.
+/// Does something while every session works, for so long before it and after it too. Gives what came of it, and the longest time
+/// that a session waited for an answer.
 pub fn at_work<T>(
     clients: &mut [Client],
+    around: Duration,
     act: impl FnOnce() -> Result<T, Failure>,
 ) -> Result<(T, Duration), Failure> {
     let over = AtomicBool::new(false);
     thread::scope(|scope| {
         let workers = clients.iter_mut().map(|client| scope.spawn(|| work_until(client, &over)));
         let workers: Vec<_> = workers.collect();
-        thread::sleep(AROUND);
+        thread::sleep(around);
         let done = act();
-        thread::sleep(AROUND);
+        thread::sleep(around);
         over.store(true, Ordering::Relaxed);
         let longest: Result<Vec<Duration>, Failure> = workers.into_iter().map(finished).collect();
         Ok((done?, longest?.into_iter().max().unwrap_or_default()))
