@@ -4,7 +4,7 @@ use crate::books::looks::{now, Clock, Look, Reading};
 use crate::books::packets::PacketBook;
 use crate::lab::director::Director;
 use crate::lab::replacement::Replacement;
-use crate::lab::{ensure, Failure};
+use crate::lab::{ensure, fail, Failure};
 
 /// A process of the director was replaced by another.
 #[derive(Clone, Copy, Debug)]
@@ -40,11 +40,11 @@ impl Replaced {
         let words =
             format!("{connections} connections at a {how}, and the packets say {least} to {most}");
         ensure(right, words)?;
-        let meanwhile = reading.before..=reading.after;
-        let mut lost = book.refused.iter().filter(|packet| meanwhile.contains(&packet.time));
-        match lost.next().filter(|_| *how == Replacement::TakeOver) {
-            None => Ok(()),
-            Some(packet) => Err(Failure(format!("a packet was lost at a {how}: {packet}"))),
+        match book.lost(&(reading.before..=reading.after)) {
+            Some(packet) if *how == Replacement::TakeOver => {
+                fail(format!("a packet was lost at a {how}: {packet}"))
+            }
+            _ => Ok(()),
         }
     }
 }

@@ -15,6 +15,7 @@ use crate::lab::{ensure, fail, Failure};
 use crate::links::packet::{server_of, Packet};
 use connection::{Connection, Moment, Removal};
 use std::collections::{HashMap, VecDeque};
+use std::ops::RangeInclusive;
 
 /// How many connections a failure tells.
 const TOLD: usize = 5;
@@ -150,6 +151,23 @@ impl PacketBook {
                 connection.server == server && connection.was_removed_by(Removal::Reset)
             })
             .count()
+    }
+
+    /// A packet that the director was handed between these times and never wrote, though its connection was not reset before.
+    pub fn lost(&self, meanwhile: &RangeInclusive<f64>) -> Option<&Packet> {
+        let mut refused = self.refused.iter().filter(|packet| meanwhile.contains(&packet.time));
+        refused.find(|packet| !self.is_after_reset(packet))
+    }
+
+    /// Whether the packet's connection, by when it was handed over, had been reset.
+    fn is_after_reset(&self, packet: &Packet) -> bool {
+        let before = |connection: &&Connection| {
+            connection.client == packet.client() && connection.opened.handed <= packet.time
+        };
+        let newest = self.connections.iter().rfind(before);
+        newest
+            .and_then(|connection| connection.removed)
+            .is_some_and(|(by, moment)| by == Removal::Reset && moment.handed <= packet.time)
     }
 
     /// How many connections were opened from a port that came back while its finished connection still counted.

@@ -134,19 +134,29 @@ fn what_is_not_written_was_refused_and_what_was_not_handed_is_not_written() {
     assert!(PacketBook::read(&[written], &clock()).is_err());
 }
 
+/// What becomes of a replacement of that kind that began at that time, after these packets.
+fn check_replaced(packets: &[Packet], how: Replacement, before: f64, connections: u32) -> bool {
+    let book = PacketBook::read(packets, &clock()).unwrap();
+    let reading = Reading { before, after: before + 0.2, clock: before as u32 };
+    Replaced { how, reading, connections }.check(&book, &clock()).is_ok()
+}
+
 #[test]
-fn a_replacement_has_the_connections_of_the_packets_and_a_take_over_loses_none() {
-    let [lost, _] = taken(20.3, 0, true, ".");
-    let book = PacketBook::read(&[&taken(10.1, 0, true, "S")[..], &[lost]].concat(), &clock());
-    let book = book.unwrap();
-    let check = |how, before, connections| {
-        let reading = Reading { before, after: before + 0.2, clock: before as u32 };
-        Replaced { how, reading, connections }.check(&book, &clock()).is_ok()
-    };
-    for connections in [0, 1, 2] {
-        let right = connections == 1;
-        assert_eq!(check(Replacement::TakeOver, 19.2, connections), right, "{connections}");
-        assert_eq!(check(Replacement::Restart, 20.2, connections), right, "{connections}");
+fn a_new_process_goes_on_with_the_connections_of_the_packets() {
+    let packets = taken(10.1, 0, true, "S");
+    for how in [Replacement::TakeOver, Replacement::Restart] {
+        let right = [0, 1, 2].map(|count| check_replaced(&packets, how, 20.2, count));
+        assert_eq!(right, [false, true, false], "{how}");
     }
-    assert!(!check(Replacement::TakeOver, 20.2, 1), "a packet was lost");
+}
+
+#[test]
+fn a_take_over_loses_no_packet_of_a_connection_that_was_not_reset() {
+    let [lost, _] = taken(20.3, 0, false, ".");
+    let open = [&taken(10.1, 0, true, "S")[..], &[lost.clone()]].concat();
+    assert!(!check_replaced(&open, Replacement::TakeOver, 20.2, 1));
+    assert!(check_replaced(&open, Replacement::TakeOver, 19.2, 1), "it was another time");
+    assert!(check_replaced(&open, Replacement::Restart, 20.2, 1));
+    let reset = [taken(10.1, 0, true, "S"), taken(15.1, 0, false, "R")].concat();
+    assert!(check_replaced(&[&reset[..], &[lost]].concat(), Replacement::TakeOver, 20.2, 0));
 }
