@@ -4,11 +4,11 @@
 //! drops what comes to it then, and TCP sends it again. So clients and replicas can't tell which packet was a connection's last,
 //! and the book is kept from the packets.
 
-use super::service::{Kept, Service};
+use super::service::{Kept, Service, PATIENCE};
 use crate::books::observation::Observation;
 use crate::lab::director::Options;
 use crate::lab::replacement::Replacement::{self, Restart, TakeOver};
-use crate::lab::{ensure, Failure, Lab, REPLICAS};
+use crate::lab::{wait_for, Failure, Lab, REPLICAS};
 use crate::load::at_work::at_work;
 use crate::load::payments::Client;
 use crate::load::pgbench::{Load, Plan};
@@ -129,10 +129,7 @@ impl Drill<'_> {
         })?;
         self.longest.push((how, longest));
         let row = self.service.check_draining(DRAINED)?;
-        let received = self.service.check_unvisited(DRAINED, &self.before)?;
-        let fresh = received - self.received;
-        self.received = received;
-        ensure(fresh > 0, format!("no connection came at a {how}: the run shows nothing"))?;
+        let fresh = self.wait_for_connection()?;
         let number = self.longest.iter().filter(|(other, _)| *other == how).count();
         self.tell(format!(
             "{how} {number}, in {} ms: {} connections at clock {}; an answer took up to {} ms; {fresh} new connections, none on \
@@ -144,6 +141,16 @@ impl Drill<'_> {
             row.connections
         ));
         Ok(())
+    }
+
+    /// A new connection comes, and none to the drained replica. Gives how many have come since this was last asked.
+    fn wait_for_connection(&mut self) -> Result<usize, Failure> {
+        let known = self.service.check_unvisited(DRAINED, &self.before)?;
+        let received = wait_for("a new connection", PATIENCE, || {
+            let received = self.service.check_unvisited(DRAINED, &self.before)?;
+            Ok((received > known).then_some(received))
+        })?;
+        Ok(received - std::mem::replace(&mut self.received, received))
     }
 
     fn tell_longest(&self, undisturbed: Duration) {
