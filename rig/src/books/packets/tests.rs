@@ -153,7 +153,7 @@ fn a_new_process_goes_on_with_the_connections_of_the_packets() {
 #[test]
 fn a_take_over_loses_no_packet_of_a_connection_that_was_not_reset() {
     let [lost, _] = taken(20.3, 0, false, ".");
-    let open = [&taken(10.1, 0, true, "S")[..], &[lost.clone()]].concat();
+    let open = [&taken(10.1, 0, true, "S")[..], std::slice::from_ref(&lost)].concat();
     assert!(!check_replaced(&open, Replacement::TakeOver, 20.2, 1));
     assert!(check_replaced(&open, Replacement::TakeOver, 19.2, 1), "it was another time");
     assert!(check_replaced(&open, Replacement::Restart, 20.2, 1));
