@@ -96,7 +96,7 @@ impl Verdict {
         let words = format!("{} of these counts were read during a take-over", looks * REPLICAS);
         ensure(looks > 0, format!("{words}: the run shows nothing"))?;
         timeline.tell(format!(
-            "{words}; each of the {} new processes told as many connections as the packets do; no packet was lost at a take-over",
+            "{words}, and no packet was lost at one; all {} new processes told as many connections as the packets do",
             self.replaced.len()
         ));
         Ok(())
