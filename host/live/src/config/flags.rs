@@ -18,7 +18,7 @@ usage: nidhaagufd --config FILE [--take-over] [flags]
                                                           weighted-least-connection, or 1 to 4)
                         server 10.1.0.5:6432 weight 1    (number 0; the next is number 1, up to 63)
                         slots 4096                       (optional: room for so many connections, 1 to 4096)
-                        device nid0                      (optional: the TUN device to create)
+                        device nid0                      (optional: the TUN device, created where it isn't there)
                         socket /run/nidhaaguf.sock       (optional: the control socket of nidhaagufctl)
                         state /run/nidhaaguf.sock.state  (optional: where the connections are kept from one start to the next)
   --take-over         take the connections, the device and the control socket over from the nidhaagufd that serves there now;
@@ -31,6 +31,9 @@ usage: nidhaagufd --config FILE [--take-over] [flags]
   --log-time          each line of the log with its time, as where no journal adds it
   --check             read the configuration, say whether it is good, and exit
   --help, --version
+
+SIGTERM, SIGINT and SIGQUIT end it, with its connections kept for the next start. SIGHUP reads the configuration anew and sets the
+weights that have changed in it.
 ";
 
 /// What the command line asks for.
