@@ -85,7 +85,7 @@ fn only_what_changes_the_table_is_a_change() {
     pass(&mut instance, &syn(1));
     pass(&mut instance, &[1, 2, 3]);
     assert!(!grew(&instance));
-    pass(&mut instance, &packets::tcp((0x0A00_0001, 1), VIRTUAL, RST).build());
+    pass(&mut instance, &reset(1));
     assert!(grew(&instance));
     instance.set_weight(0, 7).unwrap();
     assert!(grew(&instance));

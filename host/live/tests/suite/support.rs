@@ -1,12 +1,18 @@
-//! What the tests share: an instance without a device, and the packets it is given.
+//! What the tests share: an instance without a device, the packets it is given, and what is handed on of it.
 
 use live::clock::Clock;
 use live::config::flags::Flags;
 use live::config::setup;
 use live::config::Config;
+use live::handover::snapshot::Snapshot;
 use live::instance::Instance;
-use reference::packets::{self, End, SYN};
+use live::log::line::Form;
+use live::log::output::Output;
+use live::log::Log;
+use reference::packets::{self, End, RST, SYN};
+use std::fs::{self, OpenOptions};
 use std::os::unix::net::UnixDatagram;
+use std::path::PathBuf;
 use std::time::Duration;
 
 pub const CONFIG: &str = "\
@@ -21,9 +27,18 @@ server 10.30.0.5:6432 weight 20
 pub const VIRTUAL: End = (0xC000_020A, 5432);
 pub const SERVER: End = (0x0A01_0005, 6432);
 
+pub fn config(text: &str) -> Config {
+    Config::read(text, "test.conf", Flags::default()).unwrap()
+}
+
 /// Its clock shows 0 at time zero.
 pub fn instance() -> Instance {
-    let config = Config::read(CONFIG, "test.conf", Flags::default()).unwrap();
+    instance_of(CONFIG)
+}
+
+/// The same of another configuration.
+pub fn instance_of(text: &str) -> Instance {
+    let config = config(text);
     let director = setup::set_up(&config).unwrap();
     Instance::new(config.settings(), director, Clock::new(Duration::ZERO, 1))
 }
@@ -31,6 +46,11 @@ pub fn instance() -> Instance {
 /// A SYN from a client that is told by its port.
 pub fn syn(port: u16) -> Vec<u8> {
     packets::tcp((0x0A00_0001, port), VIRTUAL, SYN).build()
+}
+
+/// The same client's RST.
+pub fn reset(port: u16) -> Vec<u8> {
+    packets::tcp((0x0A00_0001, port), VIRTUAL, RST).build()
 }
 
 /// Hands a packet to the instance as its device would, and gives what it writes to it.
@@ -42,4 +62,56 @@ pub fn pass(instance: &mut Instance, packet: &[u8]) -> Option<Vec<u8>> {
     assert_eq!(instance.serve(&device, &mut buffer, 1).unwrap().taken, 1);
     let length = link.recv(&mut buffer).ok()?;
     Some(buffer[..length].to_vec())
+}
+
+/// The configuration of [`small_snapshot`].
+pub fn small_config() -> Config {
+    config(&format!("{CONFIG}slots 6\n"))
+}
+
+/// When [`small_snapshot`] was taken.
+pub const TAKEN: Duration = Duration::from_millis(4_711_500);
+
+/// A director of few slots that has no field as it was at first: connections, one ended, one refused, a weight set, one
+/// server drained, and a table that was full.
+pub fn small_snapshot() -> Snapshot {
+    let mut instance = instance_of(&format!("{CONFIG}slots 6\n"));
+    let mut log = quiet_log();
+    instance.set_weight(1, 0).unwrap();
+    log.look(&instance);
+    instance.tick(TAKEN - Duration::from_secs(1_000));
+    pass(&mut instance, &syn(9));
+    instance.tick(TAKEN);
+    (1..=7).for_each(|port| drop(pass(&mut instance, &syn(port))));
+    log.look(&instance);
+    pass(&mut instance, &reset(3));
+    log.info("text");
+    Snapshot::of(&instance, &log)
+}
+
+/// A log that nobody reads.
+pub fn quiet_log() -> Log {
+    let nowhere = OpenOptions::new().write(true).open("/dev/null").unwrap();
+    Log::new(Output::new(nowhere), Form::Plain)
+}
+
+/// A folder of its own for a test, removed in the end.
+pub struct Folder(pub PathBuf);
+
+impl Folder {
+    pub fn new(name: &str) -> Folder {
+        let path = std::env::temp_dir().join(format!("nidhaaguf-{}-{name}", std::process::id()));
+        fs::create_dir(&path).unwrap();
+        Folder(path)
+    }
+
+    pub fn file(&self, name: &str) -> PathBuf {
+        self.0.join(name)
+    }
+}
+
+impl Drop for Folder {
+    fn drop(&mut self) {
+        let _ = fs::remove_dir_all(&self.0);
+    }
 }

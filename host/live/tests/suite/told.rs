@@ -1,22 +1,14 @@
 //! What the log tells of the table and the servers, and what it has told already.
 
 use crate::support::*;
-use live::clock::Clock;
-use live::config::flags::Flags;
-use live::config::{setup, Config};
 use live::instance::Instance;
 use live::log::position::{Position, Told};
 use live::log::Level;
-use reference::packets::{self, RST};
-use std::time::Duration;
 
 const SLOTS: u16 = 20;
 
 fn small_instance() -> Instance {
-    let text = format!("{CONFIG}slots {SLOTS}\n");
-    let config = Config::read(&text, "test.conf", Flags::default()).unwrap();
-    let director = setup::set_up(&config).unwrap();
-    Instance::new(config.settings(), director, Clock::new(Duration::ZERO, 1))
+    instance_of(&format!("{CONFIG}slots {SLOTS}\n"))
 }
 
 fn open(instance: &mut Instance, ports: std::ops::RangeInclusive<u16>) -> usize {
@@ -25,8 +17,7 @@ fn open(instance: &mut Instance, ports: std::ops::RangeInclusive<u16>) -> usize 
 
 fn end(instance: &mut Instance, ports: std::ops::RangeInclusive<u16>) {
     for port in ports {
-        let reset = packets::tcp((0x0A00_0001, port), VIRTUAL, RST).build();
-        assert!(pass(instance, &reset).is_some());
+        assert!(pass(instance, &reset(port)).is_some());
     }
 }
 
