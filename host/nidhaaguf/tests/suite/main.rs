@@ -2,6 +2,7 @@
 
 mod bursts;
 mod director;
+mod resumes;
 mod serves;
 mod signals;
 mod support;
