@@ -70,7 +70,7 @@ fn another_setup_is_told_with_its_line() {
             "10.2.0.6:6432",
             "its server 1 is 10.2.0.5:6432, and test.conf line 5 says 10.2.0.6:6432",
         ),
-        (server, "", "its server 2 is 10.30.0.5:6432, and test.conf line 5 says none"),
+        (server, "", "its server 2 is 10.30.0.5:6432, and test.conf says none"),
         (
             server,
             &format!("{server}server 10.4.0.5:1 weight 0\n"),
@@ -107,10 +107,10 @@ fn what_the_library_refuses_is_told() {
 
 /// Counts that could not be added to, and what was told of more than there was.
 #[test]
-fn counts_that_no_director_comes_to_are_refused() {
+fn counts_that_no_director_can_have_are_refused() {
     let changes: [fn(&mut Snapshot); 5] = [
         |other| other.weights_set = u64::MAX,
-        |other| other.counters.idle_removed = 1 << 56,
+        |other| other.counters.idle_removed = 1 << 55,
         |other| other.log.lost = 1 << 63,
         |other| other.log.told.refused += 1,
         |other| other.log.told.refused_before = other.log.told.refused + 1,
@@ -118,7 +118,7 @@ fn counts_that_no_director_comes_to_are_refused() {
     for change in changes {
         let mut snapshot = small_snapshot();
         change(&mut snapshot);
-        let words = "its counts are none that a director comes to";
+        let words = "its counts are none that a director can have";
         assert_eq!(complaint(snapshot, &small_config()), words);
     }
 }
