@@ -58,28 +58,46 @@ pub struct Daemon {
     /// What was read of its log.
     log: String,
     pub socket: String,
+    /// What it said of the connections that go on, if some do.
+    pub words: String,
     pub ready: String,
 }
 
 impl Daemon {
     pub fn start(place: &Place, config: &str, flags: &[&str]) -> Daemon {
-        let mut child = command(place, config, "nid0", flags).spawn().unwrap();
-        let mut ready = String::new();
-        let mut out = BufReader::new(child.stdout.take().unwrap());
-        out.read_line(&mut ready).unwrap();
-        if !ready.starts_with("ready: ") {
-            let output = child.wait_with_output().unwrap();
-            panic!("not ready: {ready:?} {}", String::from_utf8_lossy(&output.stderr));
-        }
-        child.stdout = Some(out.into_inner());
-        let daemon = Daemon::of_child(child, place, ready);
+        let daemon = Daemon::run(command(place, config, "nid0", flags), place);
         link::ip("link set nid0 up");
         daemon
     }
 
-    /// The daemon of that place, which has said that it is ready, or nothing yet.
-    pub fn of_child(child: Child, place: &Place, ready: String) -> Daemon {
-        Daemon { child, log: String::new(), socket: place.file("sock"), ready }
+    /// Takes over from the daemon of that place.
+    pub fn take_over(place: &Place, config: &str, flags: &[&str]) -> Daemon {
+        Daemon::run(command(place, config, "nid0", &[&["--take-over"], flags].concat()), place)
+    }
+
+    /// Runs a command of the daemon until it is ready.
+    pub fn run(mut command: Command, place: &Place) -> Daemon {
+        let mut child = command.spawn().unwrap();
+        let (mut words, mut ready) = (String::new(), String::new());
+        let mut out = BufReader::new(child.stdout.take().unwrap());
+        while out.read_line(&mut ready).unwrap() > 0 && !ready.starts_with("ready: ") {
+            words.push_str(&std::mem::take(&mut ready));
+        }
+        if ready.is_empty() {
+            let output = child.wait_with_output().unwrap();
+            panic!("not ready: {words:?} {}", String::from_utf8_lossy(&output.stderr));
+        }
+        child.stdout = Some(out.into_inner());
+        let mut daemon = Daemon::of_child(child, place);
+        (daemon.words, daemon.ready) = (words, ready);
+        daemon
+    }
+
+    /// The daemon of that place, which has said nothing yet.
+    pub fn of_child(child: Child, place: &Place) -> Daemon {
+        let socket = place.file("sock");
+        let [log, words, ready] = [const { String::new() }; 3];
+        Daemon { child, log, socket, words, ready }
     }
 
     pub fn connect(&self) -> UnixStream {
@@ -149,20 +167,28 @@ impl Daemon {
 
     /// Waits for its end.
     pub fn wait(mut self) -> Outcome {
+        self.outcome()
+    }
+
+    fn outcome(&mut self) -> Outcome {
         let (code, out, rest) = outcome(&mut self.child);
         (code, out, format!("{}{rest}", self.log))
     }
 
     /// Ends it by a signal, as an operator would: it must leave nothing behind.
-    pub fn end_by(self, signal: &str) {
-        let socket = self.socket.clone();
+    pub fn end_by(mut self, signal: &str) {
+        self.must_end_by(signal);
+    }
+
+    /// The same of a daemon that is replaced later.
+    pub fn must_end_by(&mut self, signal: &str) {
         self.signal(signal);
-        let (code, out, log) = self.wait();
+        let (code, out, log) = self.outcome();
         assert_eq!((code, out.as_str()), (Some(0), ""), "{log}");
         let last = log.lines().last().unwrap_or_default();
         assert!(last.starts_with(&format!("<5>nidhaagufd: ended by SIG{signal}; clock ")), "{log}");
         assert!(last.contains("; inbound ") && last.contains("; outbound "), "{log}");
-        assert!(!PathBuf::from(socket).exists(), "the socket file is still there");
+        assert!(!PathBuf::from(&self.socket).exists(), "the socket file is still there");
     }
 }
 

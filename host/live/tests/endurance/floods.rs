@@ -64,7 +64,8 @@ fn under_a_flood<T>(link: &Link, packet: &[u8], work: impl FnOnce() -> T) -> T {
     })
 }
 
-struct Stops<'a>(&'a AtomicBool);
+/// Sets a flag in the end.
+pub struct Stops<'a>(pub &'a AtomicBool);
 
 impl Drop for Stops<'_> {
     fn drop(&mut self) {

@@ -1,9 +1,8 @@
 //! What the log tells, and a log that nobody takes.
 
 use crate::daemon::{ask, command, Daemon, Place, PATIENCE};
-use crate::model::{CONFIG, SLOTS, VIRTUAL};
+use crate::model::{CONFIG, SLOTS};
 use crate::rig::Rig;
-use reference::packets::{tcp, SYN};
 use std::fs::OpenOptions;
 use std::os::unix::net::UnixStream;
 use std::process::Stdio;
@@ -14,13 +13,9 @@ fn lines_with<'a>(log: &'a str, words: &str) -> Vec<&'a str> {
     log.lines().filter(|line| line.contains(words)).collect()
 }
 
-fn syns(rig: &mut Rig, clients: usize) -> Vec<Vec<u8>> {
-    (0..clients).map(|_| tcp((0x0A00_0001, rig.new_port()), VIRTUAL, SYN).build()).collect()
-}
-
 /// A drain in the log: the weight, by whom, and the end; a weight that is set to what it is already is no change.
 pub fn drained_server(rig: &mut Rig) {
-    let openings = syns(rig, 6);
+    let openings = rig.openings(6);
     rig.send(&openings);
     for _ in 0..2 {
         assert!(rig.daemon.text("drain 0").ends_with(", draining\n"));
@@ -43,7 +38,7 @@ pub fn drained_server(rig: &mut Rig) {
 /// A full table and its room are told once each, however many are refused.
 pub fn full_table(rig: &mut Rig) {
     let more = 1_000;
-    let openings = syns(rig, SLOTS + more);
+    let openings = rig.openings(SLOTS + more);
     rig.send(&openings);
     let full = "<4>nidhaagufd: the table is full: 64 of 64 slots used, new connections are refused";
     rig.daemon.await_log(full);
@@ -81,7 +76,7 @@ pub fn full_devices() {
         let piped = |is_full: bool| if is_full { full() } else { Stdio::piped() };
         let mut command = command(&place, CONFIG, "nid0", &[]);
         let started = command.stdout(piped(full_output)).stderr(piped(full_log)).spawn().unwrap();
-        let daemon = Daemon::of_child(started, &place, String::new());
+        let daemon = Daemon::of_child(started, &place);
         await_socket(&daemon.socket);
         assert!(daemon.ask("weight 9 9").starts_with("error: there is no server"));
         assert_eq!(daemon.ask("count 0"), "ok\n0\n");

@@ -16,6 +16,7 @@ mod packets;
 mod reloads;
 mod rig;
 mod signals;
+mod takeovers;
 
 use rig::Rig;
 
@@ -113,5 +114,20 @@ fn reloads() {
         reloads::unchanged_file(&mut rig);
         reloads::bad_files(&mut rig);
         rig.daemon.end_by("TERM");
+    });
+}
+
+#[test]
+fn takeovers_by_processes() {
+    in_own_network("endurance of take-overs", || {
+        let mut rig = Rig::start("takeovers");
+        takeovers::ten_in_a_row(&mut rig);
+        takeovers::other_configurations(&mut rig);
+        takeovers::other_users(&mut rig);
+        takeovers::other_layouts(&mut rig);
+        rig.take_over();
+        rig.daemon.end_by("TERM");
+        takeovers::nobody_there();
+        takeovers::under_a_flood();
     });
 }

@@ -1,7 +1,7 @@
 //! What the daemon should do, told by the second implementation.
 
 use crate::counts::Counts;
-use reference::packets::{self, End, RST};
+use reference::packets::{self, End};
 use reference::{Answer, Change, Server, Service, State, PLACES};
 
 pub const VIRTUAL: End = (0xC000_020A, 5432);
@@ -94,10 +94,10 @@ impl Model {
         self.counts.packets()
     }
 
-    /// A reset for each connection there is.
-    pub fn resets(&self) -> Vec<Vec<u8>> {
+    /// A client's packet for each connection there is.
+    pub fn packets_of_all(&self, flags: u8) -> Vec<Vec<u8>> {
         let used = self.row.chunks(5).filter(|slot| slot[0] != 0);
-        used.map(|slot| packets::tcp((slot[1], slot[2] as u16), VIRTUAL, RST).build()).collect()
+        used.map(|slot| packets::tcp((slot[1], slot[2] as u16), VIRTUAL, flags).build()).collect()
     }
 }
 

@@ -70,9 +70,8 @@ pub fn every_weight_zero(rig: &mut Rig) {
         assert!(answer.ends_with(": weight 0, 0 connections, may be unplugged\n"), "{answer}");
         rig.model.set_weight(server, 0);
     }
-    let syns: Vec<_> =
-        (0..10).map(|_| tcp((0x0A00_0001, rig.new_port()), VIRTUAL, SYN).build()).collect();
-    rig.send(&syns);
+    let openings = rig.openings(10);
+    rig.send(&openings);
     let refused = "nidhaaguf_refusals_total{way=\"inbound\",number=\"14\"}";
     assert_eq!(rig.counts().get(refused), 10);
     rig.set_weight(0, 2);

@@ -4,7 +4,7 @@ use crate::counts::Counts;
 use crate::daemon::{Daemon, Place, PATIENCE};
 use crate::link::Link;
 use crate::model::{Model, CONFIG, SLOTS, VIRTUAL};
-use reference::packets::{self, ACK, SYN};
+use reference::packets::{self, ACK, RST, SYN};
 use std::time::{Duration, Instant};
 
 /// Fewer than the device's queue takes.
@@ -38,18 +38,21 @@ impl Rig {
     /// Sends packets; what comes back, and all counts, must be what the model says.
     pub fn send(&mut self, packets: &[Vec<u8>]) {
         for batch in packets.chunks(BATCH) {
-            let mut expected = Vec::new();
-            for packet in batch {
-                self.link.send(packet);
-                expected.extend(self.model.take(packet));
-            }
+            let expected = self.send_ahead(batch);
             self.must_receive(expected);
             self.await_packets();
         }
         self.check();
     }
 
-    fn must_receive(&self, mut expected: Vec<Vec<u8>>) {
+    /// Sends packets, fewer than the device's queue takes, and tells what is to come back.
+    pub fn send_ahead(&mut self, packets: &[Vec<u8>]) -> Vec<Vec<u8>> {
+        packets.iter().for_each(|packet| self.link.send(packet));
+        packets.iter().filter_map(|packet| self.model.take(packet)).collect()
+    }
+
+    /// These packets must come, in any order.
+    pub fn must_receive(&self, mut expected: Vec<Vec<u8>>) {
         let mut received: Vec<_> =
             expected.iter().map_while(|_| self.link.receive(PATIENCE)).collect();
         expected.sort();
@@ -96,7 +99,7 @@ impl Rig {
 
     /// Ends all connections by resets.
     pub fn end_all(&mut self) {
-        let resets = self.model.resets();
+        let resets = self.model.packets_of_all(RST);
         self.send(&resets);
         assert_eq!(self.model.counts().get("nidhaaguf_slots_used"), 0);
     }
@@ -106,6 +109,45 @@ impl Rig {
         let answer = self.daemon.text(&format!("weight {server} {weight}"));
         assert!(answer.contains(&format!(": weight {weight}, ")), "{answer}");
         self.model.set_weight(server, weight);
+    }
+
+    /// SYNs of new clients.
+    pub fn openings(&mut self, clients: usize) -> Vec<Vec<u8>> {
+        let client = |rig: &mut Rig| (0x0A00_0001, rig.new_port());
+        (0..clients).map(|_| packets::tcp(client(self), VIRTUAL, SYN).build()).collect()
+    }
+
+    /// Another process takes over, with packets on their way all the while: none is lost, none is answered twice, and the
+    /// old process ends well.
+    pub fn take_over(&mut self) {
+        let used = self.model.counts().get("nidhaaguf_slots_used");
+        let expected = self.send_ahead(&self.model.packets_of_all(ACK));
+        let next = Daemon::take_over(&self.place, CONFIG, &[]);
+        self.must_receive(expected);
+        assert!(next.words.starts_with(&format!("took over {used} connections at clock ")));
+        assert!(next.words.ends_with(", weights kept\n"), "{}", next.words);
+        let old = std::mem::replace(&mut self.daemon, next);
+        let (code, out, log) = old.wait();
+        let handed = format!("handed {used} connections over to process {}", self.daemon.process());
+        assert_eq!((code, out.as_str()), (Some(0), ""), "{log}");
+        assert!(log.ends_with(&format!("<5>nidhaagufd: {handed}\n")), "{log}");
+        self.check();
+    }
+
+    /// Ends the daemon by a signal and starts it again: all goes on, on a new device.
+    pub fn restart(&mut self, signal: &str) {
+        let used = self.model.counts().get("nidhaaguf_slots_used");
+        self.daemon.must_end_by(signal);
+        self.start_again();
+        let words = format!("resumed {used} connections at clock ");
+        assert!(self.daemon.words.starts_with(&words), "{}", self.daemon.words);
+        self.check();
+    }
+
+    /// Starts the daemon that was ended, on a new device.
+    pub fn start_again(&mut self) {
+        self.daemon = Daemon::start(&self.place, CONFIG, &[]);
+        self.link = Link::open("nid0");
     }
 
     /// A client's port that wasn't used yet.
