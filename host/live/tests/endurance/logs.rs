@@ -52,15 +52,11 @@ pub fn full_table(rig: &mut Rig) {
 /// What one process has told, the next one that takes over doesn't tell again; it goes on counting.
 pub fn handed_on() {
     let mut rig = Rig::start("handed");
-    let openings = syns(&mut rig, SLOTS + 10);
+    let openings = rig.openings(SLOTS + 10);
     rig.send(&openings);
     rig.daemon.await_log("the table is full: ");
-    let next = command(&rig.place, CONFIG, "nid0", &["--take-over"]).spawn().unwrap();
-    let next = Daemon::of_child(next, &rig.place, String::new());
-    let (code, _, log) = std::mem::replace(&mut rig.daemon, next).wait();
-    assert_eq!(code, Some(0), "{log}");
-    rig.daemon.await_log(&format!("took over {SLOTS} connections"));
-    let openings = syns(&mut rig, 7);
+    rig.take_over();
+    let openings = rig.openings(7);
     rig.send(&openings);
     rig.end_all();
     let log = rig.daemon.await_log(" slots used, 17 openings were refused\n");
