@@ -50,7 +50,7 @@ fn send(stream: &mut Timed, bytes: &[u8], files: [BorrowedFd<'_>; 3]) -> io::Res
 fn answer(stream: &mut Timed) -> Result<(), String> {
     let mut line = Vec::new();
     let read = stream.read_line(&mut line, MOST_ANSWER);
-    if read.as_ref().is_err_and(is_late) {
+    if read.is_err() {
         // nothing can be said after this, and what was said before is still there
         let closed = stream.stream.shutdown(Shutdown::Read);
         closed

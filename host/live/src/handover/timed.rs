@@ -39,8 +39,14 @@ impl Timed {
 
 impl Read for Timed {
     fn read(&mut self, bytes: &mut [u8]) -> io::Result<usize> {
-        self.stream.set_read_timeout(self.left()?)?;
-        self.stream.read(bytes)
+        loop {
+            self.stream.set_read_timeout(self.left()?)?;
+            match self.stream.read(bytes) {
+                // so ends a read with a time limit in a process that was stopped and goes on
+                Err(error) if error.kind() == ErrorKind::Interrupted => {}
+                read => return read,
+            }
+        }
     }
 }
 

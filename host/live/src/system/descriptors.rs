@@ -2,7 +2,7 @@
 
 use super::SOL_SOCKET;
 use std::ffi::c_void;
-use std::io::{Error, Result};
+use std::io::{Error, ErrorKind, Result};
 use std::mem::size_of;
 use std::os::fd::{AsRawFd, BorrowedFd, FromRawFd, OwnedFd};
 use std::os::unix::net::UnixStream;
@@ -62,7 +62,7 @@ pub fn send(stream: &UnixStream, bytes: &[u8], files: [BorrowedFd<'_>; FILES]) -
     let message = message(&mut part, &mut rights);
     // SAFETY: the message's part is a slice, and its control bytes are a whole struct; both live through the call, which only
     // reads them.
-    sent(unsafe { sendmsg(stream.as_raw_fd(), &message, MSG_NOSIGNAL) })
+    uninterrupted(|| unsafe { sendmsg(stream.as_raw_fd(), &message, MSG_NOSIGNAL) })
 }
 
 /// Receives bytes, and the files that came with them; tells how many bytes came.
@@ -71,7 +71,8 @@ pub fn receive(stream: &UnixStream, bytes: &mut [u8]) -> Result<(usize, Vec<Owne
     let mut part = Part { bytes: bytes.as_mut_ptr().cast(), length: bytes.len() };
     let mut message = message(&mut part, &mut rights);
     // SAFETY: the message's part is a slice, and its control bytes are a whole struct; both are lent for the call.
-    let length = sent(unsafe { recvmsg(stream.as_raw_fd(), &mut message, MSG_CMSG_CLOEXEC) })?;
+    let receive = || unsafe { recvmsg(stream.as_raw_fd(), &mut message, MSG_CMSG_CLOEXEC) };
+    let length = uninterrupted(receive)?;
     let told = message.control_length >= HEADER;
     let are_files = told && (rights.level, rights.kind) == (SOL_SOCKET, SCM_RIGHTS);
     let number = if are_files { (rights.length - HEADER) / size_of::<i32>() } else { 0 };
@@ -92,6 +93,12 @@ fn message(part: &mut Part, rights: &mut Rights) -> Message {
     }
 }
 
-fn sent(result: isize) -> Result<usize> {
-    usize::try_from(result).map_err(|_| Error::last_os_error())
+/// Makes a call again that was interrupted, as in a process that was stopped and goes on; tells its number of bytes.
+fn uninterrupted(mut call: impl FnMut() -> isize) -> Result<usize> {
+    loop {
+        match usize::try_from(call()).map_err(|_| Error::last_os_error()) {
+            Err(error) if error.kind() == ErrorKind::Interrupted => {}
+            done => return done,
+        }
+    }
 }
