@@ -77,20 +77,22 @@ impl Daemon {
 
     /// Runs a command of the daemon until it is ready.
     pub fn run(mut command: Command, place: &Place) -> Daemon {
-        let mut child = command.spawn().unwrap();
-        let (mut words, mut ready) = (String::new(), String::new());
-        let mut out = BufReader::new(child.stdout.take().unwrap());
-        while out.read_line(&mut ready).unwrap() > 0 && !ready.starts_with("ready: ") {
-            words.push_str(&std::mem::take(&mut ready));
-        }
-        if ready.is_empty() {
-            let output = child.wait_with_output().unwrap();
-            panic!("not ready: {words:?} {}", String::from_utf8_lossy(&output.stderr));
-        }
-        child.stdout = Some(out.into_inner());
-        let mut daemon = Daemon::of_child(child, place);
-        (daemon.words, daemon.ready) = (words, ready);
+        let mut daemon = Daemon::of_child(command.spawn().unwrap(), place);
+        daemon.await_ready();
         daemon
+    }
+
+    /// Waits until it says that it is ready.
+    pub fn await_ready(&mut self) {
+        let mut out = BufReader::new(self.child.stdout.take().unwrap());
+        while out.read_line(&mut self.ready).unwrap() > 0 && !self.ready.starts_with("ready: ") {
+            self.words.push_str(&std::mem::take(&mut self.ready));
+        }
+        if self.ready.is_empty() {
+            let outcome = self.outcome();
+            panic!("not ready: {:?} {outcome:?}", self.words);
+        }
+        self.child.stdout = Some(out.into_inner());
     }
 
     /// The daemon of that place, which has said nothing yet.
@@ -143,8 +145,13 @@ impl Daemon {
 
     /// Waits until its log has these words; gives the log so far.
     pub fn await_log(&mut self, words: &str) -> &str {
+        self.await_log_times(words, 1)
+    }
+
+    /// Waits until its log has these words so many times.
+    pub fn await_log_times(&mut self, words: &str, times: usize) -> &str {
         let deadline = Instant::now() + PATIENCE;
-        while !self.log.contains(words) {
+        while self.log.matches(words).count() < times {
             let left = deadline.saturating_duration_since(Instant::now());
             assert!(left > Duration::ZERO, "{words:?} doesn't come: {}", self.log);
             let pipe = self.child.stderr.as_mut().unwrap();
@@ -163,6 +170,17 @@ impl Daemon {
     /// Nobody reads its log any more.
     pub fn close_log(&mut self) {
         self.child.stderr = None;
+    }
+
+    /// Kills it at once, sooner than a signal that a program sends.
+    pub fn kill(mut self) {
+        self.child.kill().unwrap();
+        self.child.wait().unwrap();
+    }
+
+    /// Whether it has ended.
+    pub fn has_ended(&mut self) -> bool {
+        self.child.try_wait().unwrap().is_some()
     }
 
     /// Waits for its end.

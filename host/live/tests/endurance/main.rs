@@ -16,6 +16,7 @@ mod packets;
 mod reloads;
 mod rig;
 mod signals;
+mod stand_ins;
 mod takeovers;
 
 use rig::Rig;
@@ -129,5 +130,38 @@ fn takeovers_by_processes() {
         rig.daemon.end_by("TERM");
         takeovers::nobody_there();
         takeovers::under_a_flood();
+    });
+}
+
+#[test]
+fn takeovers_by_stand_ins() {
+    in_own_network("endurance of bad take-overs", || {
+        let mut rig = Rig::start("stand-ins");
+        stand_ins::gone_at_each_step(&mut rig);
+        stand_ins::nonsense(&mut rig);
+        stand_ins::two_at_once(&mut rig);
+        stand_ins::stopped_taker(&mut rig);
+        stand_ins::silent(&mut rig);
+        rig.daemon.end_by("TERM");
+    });
+}
+
+#[test]
+fn takeovers_that_come_too_late() {
+    in_own_network("endurance of late take-overs", || {
+        let mut rig = Rig::start("late");
+        stand_ins::late(&mut rig);
+        rig.take_over();
+        rig.daemon.end_by("TERM");
+    });
+}
+
+#[test]
+fn takeovers_in_which_one_is_killed() {
+    in_own_network("endurance of take-overs in which one is killed", || {
+        stand_ins::killed_takers();
+        stand_ins::killed_before_it_sends();
+        stand_ins::killed_after_it_has_sent();
+        stand_ins::stopped_while_it_waits();
     });
 }

@@ -118,8 +118,8 @@ impl Rig {
     }
 
     /// Another process takes over, with packets on their way all the while: none is lost, none is answered twice, and the
-    /// old process ends well.
-    pub fn take_over(&mut self) {
+    /// old process ends well. Gives its log.
+    pub fn take_over(&mut self) -> String {
         let used = self.model.counts().get("nidhaaguf_slots_used");
         let expected = self.send_ahead(&self.model.packets_of_all(ACK));
         let next = Daemon::take_over(&self.place, CONFIG, &[]);
@@ -132,6 +132,7 @@ impl Rig {
         assert_eq!((code, out.as_str()), (Some(0), ""), "{log}");
         assert!(log.ends_with(&format!("<5>nidhaagufd: {handed}\n")), "{log}");
         self.check();
+        log
     }
 
     /// Ends the daemon by a signal and starts it again: all goes on, on a new device.

@@ -1,0 +1,257 @@
+//! Stand-ins for the next process, which do what a good one doesn't; and processes that are killed or stopped in the middle.
+
+use crate::daemon::{command, control, output, Daemon, PATIENCE};
+use crate::link::Link;
+use crate::model::{CONFIG, VIRTUAL};
+use crate::rig::Rig;
+use live::handover::request::Request;
+use live::handover::take::{take, Taken};
+use nidhaaguf::Protocol;
+use reference::packets::{tcp, ACK};
+use std::fs::{self, File};
+use std::io::{Read, Write};
+use std::os::unix::net::UnixStream;
+use std::path::Path;
+use std::thread;
+use std::time::{Duration, Instant};
+
+fn request() -> Request {
+    Request::new(("192.0.2.10:5432".parse().unwrap(), Protocol::Tcp))
+}
+
+/// One that has connected and asked.
+fn ask(rig: &Rig) -> UnixStream {
+    let mut stream = rig.daemon.connect();
+    stream.write_all(request().line().as_bytes()).unwrap();
+    stream
+}
+
+/// One that has all, and has said nothing yet.
+fn take_all(rig: &Rig) -> Taken {
+    take(Path::new(&rig.daemon.socket), request()).unwrap()
+}
+
+/// Waits for a condition.
+fn wait_until(what: &str, mut is_so: impl FnMut() -> bool) {
+    let deadline = Instant::now() + PATIENCE;
+    while !is_so() {
+        assert!(Instant::now() < deadline, "{what}: it doesn't come to that");
+        thread::sleep(Duration::from_millis(1));
+    }
+}
+
+/// Waits until so many clients are connected at the daemon's socket, let in or not.
+fn await_clients(rig: &Rig, clients: usize) {
+    // the listening socket has the name too
+    let sockets = || fs::read_to_string("/proc/thread-self/net/unix").unwrap();
+    let name = format!(" {}\n", rig.daemon.socket);
+    wait_until("clients connect", || sockets().matches(&name).count() > clients);
+}
+
+/// Stops a daemon, surely.
+fn stop(daemon: &Daemon) {
+    daemon.signal("STOP");
+    let stat = format!("/proc/{}/stat", daemon.process());
+    wait_until("the daemon stops", || fs::read_to_string(&stat).unwrap().contains(") T "));
+}
+
+/// One that has gone after it asked, after the first byte, after half of the state, and after all of it.
+pub fn gone_at_each_step(rig: &mut Rig) {
+    let mut stream = ask(rig);
+    let mut line = Vec::new();
+    while line.last() != Some(&b'\n') {
+        let mut byte = [0];
+        stream.read_exact(&mut byte).unwrap();
+        line.push(byte[0]);
+    }
+    drop(stream);
+    let words = String::from_utf8(line.clone()).unwrap();
+    let state: usize = words.trim_end().strip_prefix("state ").unwrap().parse().unwrap();
+    let all = line.len() + state;
+    for (time, length) in
+        [0, 1, line.len(), line.len() + state / 2, all - 1, all].iter().enumerate()
+    {
+        let mut stream = ask(rig);
+        stream.read_exact(&mut vec![0; *length]).unwrap();
+        drop(stream);
+        let own = std::process::id();
+        let words =
+            format!("<3>nidhaagufd: not handed over to process {own}: the other process has gone");
+        rig.daemon.await_log_times(&words, time + 2);
+        rig.must_serve();
+    }
+}
+
+/// One that says something else than it should.
+pub fn nonsense(rig: &mut Rig) {
+    for (said, words) in [
+        (&b"perhaps\n"[..], "the other process says \"perhaps\""),
+        (b"serving or not\n", "the other process says \"serving or not\""),
+        (b"\xFF\x00\n", "the other process says \"\u{fffd}\\0\""),
+        (b"refused: no reason\n", "the other process refuses: no reason"),
+        (b"refused: \n", "the other process refuses: "),
+        (&[b'x'; 5_000], "the other process says \"xxx"),
+    ] {
+        let mut stream = ask(rig);
+        // what is said before that belongs to the request
+        stream.read_exact(&mut [0]).unwrap();
+        stream.write_all(said).unwrap();
+        // the log is one line an event, whatever is in it
+        rig.daemon.await_log(&words.replace('\0', "\\0"));
+        rig.must_serve();
+    }
+}
+
+/// One that asks and neither reads nor goes: the next in line gets the director after 5 s, as it was.
+pub fn silent(rig: &mut Rig) {
+    let openings = rig.openings(5);
+    rig.send(&openings);
+    let stream = ask(rig);
+    await_clients(rig, 1);
+    let log = rig.take_over();
+    assert!(log.contains(": the other process has not answered within 5 s; serving on\n"), "{log}");
+    drop(stream);
+    rig.end_all();
+    rig.must_serve();
+}
+
+/// One that has all and hangs: the old one serves on after 5 s, with what came meanwhile; an operator waits no longer. What is
+/// said later is refused.
+pub fn late(rig: &mut Rig) {
+    let openings = rig.openings(5);
+    rig.send(&openings);
+    let taken = take_all(rig);
+    let expected = rig.send_ahead(&rig.model.packets_of_all(ACK));
+    let asked = Instant::now();
+    let (code, out, log) = output(control().args(["--socket", &rig.daemon.socket, "status"]));
+    assert_eq!(code, Some(0), "{log}");
+    assert!(out.contains(", 5 of 64 slots used, "), "{out}");
+    assert!(asked.elapsed() > live::handover::PATIENCE / 2, "nobody had to wait");
+    rig.daemon.await_log(": the other process has not answered within 5 s; serving on\n");
+    rig.must_receive(expected);
+    rig.check();
+    let late = taken.giver.serve();
+    assert_eq!(late, Err("the other process waited no longer, and serves on".into()));
+    rig.end_all();
+    rig.must_serve();
+}
+
+/// Two processes that ask before either is answered: one serves in the end, the other one and the old one have ended.
+pub fn two_at_once(rig: &mut Rig) {
+    let openings = rig.openings(5);
+    rig.send(&openings);
+    stop(&rig.daemon);
+    let start = || command(&rig.place, CONFIG, "nid0", &["--take-over"]).spawn().unwrap();
+    let [mut one, mut other] = [start(), start()].map(|child| Daemon::of_child(child, &rig.place));
+    await_clients(rig, 2);
+    let expected = rig.send_ahead(&rig.model.packets_of_all(ACK));
+    rig.daemon.signal("CONT");
+    wait_until("one of them ends", || one.has_ended() || other.has_ended());
+    let (next, ended) = if one.has_ended() { (other, one) } else { (one, other) };
+    let (code, out, log) = ended.wait();
+    assert_eq!((code, out.as_str()), (Some(1), ""), "{log}");
+    assert!(log.contains("nothing was taken over: the director at "), "{log}");
+    let (code, _, log) = std::mem::replace(&mut rig.daemon, next).wait();
+    assert_eq!(code, Some(0), "{log}");
+    rig.must_receive(expected);
+    rig.daemon.await_ready();
+    assert!(rig.daemon.words.starts_with("took over 5 connections at clock "));
+    rig.check();
+    rig.end_all();
+    rig.must_serve();
+}
+
+/// The new one is stopped while it waits for the old one, and goes on later: nothing is lost by that.
+pub fn stopped_taker(rig: &mut Rig) {
+    let openings = rig.openings(5);
+    rig.send(&openings);
+    stop(&rig.daemon);
+    let next = command(&rig.place, CONFIG, "nid0", &["--take-over"]).spawn().unwrap();
+    let mut next = Daemon::of_child(next, &rig.place);
+    await_clients(rig, 1);
+    stop(&next);
+    next.signal("CONT");
+    rig.daemon.signal("CONT");
+    next.await_ready();
+    let (code, _, log) = std::mem::replace(&mut rig.daemon, next).wait();
+    assert_eq!(code, Some(0), "{log}");
+    rig.check();
+    rig.end_all();
+}
+
+/// New processes that are killed sooner or later: the old one serves on, unless it has handed all over by then.
+pub fn killed_takers() {
+    let (mut served_on, mut handed_over) = (0, 0);
+    for delay in (0..40).map(|number| Duration::from_micros(150 * number)) {
+        let mut rig = Rig::start("killed");
+        let openings = rig.openings(5);
+        rig.send(&openings);
+        let next = command(&rig.place, CONFIG, "nid0", &["--take-over"]).spawn().unwrap();
+        let next = Daemon::of_child(next, &rig.place);
+        thread::sleep(delay);
+        next.kill();
+        let (code, ..) = output(control().args(["--socket", &rig.daemon.socket, "status"]));
+        if code == Some(0) {
+            rig.check();
+            rig.end_all();
+            served_on += 1;
+        } else {
+            let (code, _, log) = rig.daemon.wait();
+            assert_eq!(code, Some(0), "{log}");
+            assert!(log.contains("<5>nidhaagufd: handed 5 connections over to process "), "{log}");
+            handed_over += 1;
+        }
+    }
+    assert!(served_on > 0, "{served_on} {handed_over}");
+}
+
+/// The old one is killed before it has sent anything: there is nothing to take over.
+pub fn killed_before_it_sends() {
+    let rig = Rig::start("killed-early");
+    stop(&rig.daemon);
+    let socket = rig.daemon.socket.clone();
+    let taker = thread::spawn(move || take(Path::new(&socket), request()).map(|_| ()));
+    await_clients(&rig, 1);
+    rig.daemon.signal("KILL");
+    let complaint = taker.join().unwrap().unwrap_err();
+    assert!(complaint.contains(" hands nothing over: "), "{complaint}");
+}
+
+/// The old one is killed after it has sent all: who has it may serve, and the device is still there.
+pub fn killed_after_it_has_sent() {
+    let rig = Rig::start("killed-late");
+    let Taken { device, listener, snapshot, giver } = take_all(&rig);
+    let Rig { daemon, link, place, .. } = rig;
+    daemon.signal("KILL");
+    assert_eq!(daemon.wait().0, None);
+    assert_eq!(giver.serve(), Ok(()));
+    must_reach(&link, &mut File::from(device));
+    assert_eq!(snapshot.row.len(), 5 * crate::model::SLOTS);
+    let _client = UnixStream::connect(place.file("sock")).unwrap();
+    wait_until("a client is let in", || listener.accept().is_ok());
+}
+
+/// What is sent into the device comes to who has it open.
+fn must_reach(link: &Link, device: &mut File) {
+    let packet = tcp((0x0A00_0001, 9), VIRTUAL, ACK).build();
+    link.send(&packet);
+    let mut bytes = [0; 100];
+    let length = device.read(&mut bytes).unwrap();
+    assert_eq!(bytes[..length], packet);
+}
+
+/// The old one is stopped while it waits for the answer, and goes on later, as under a debugger: since the other one says
+/// meanwhile that it serves, it must not serve on.
+pub fn stopped_while_it_waits() {
+    let rig = Rig::start("stopped");
+    let Taken { device, giver, .. } = take_all(&rig);
+    stop(&rig.daemon);
+    assert_eq!(giver.serve(), Ok(()));
+    let Rig { daemon, link, place, .. } = rig;
+    daemon.signal("CONT");
+    let (code, _, log) = daemon.wait();
+    assert_eq!(code, Some(0), "{log}");
+    assert!(log.contains("<5>nidhaagufd: handed 0 connections over to process "), "{log}");
+    must_reach(&link, &mut File::from(device));
+    assert!(Path::new(&place.file("sock")).exists());
+}
