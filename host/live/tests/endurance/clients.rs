@@ -1,10 +1,10 @@
 //! Clients of the control socket that the daemon must outlast.
 
-use crate::daemon::{control, output, PATIENCE};
+use crate::daemon::{output, PATIENCE};
 use crate::model::VIRTUAL;
+use crate::place::{as_nobody, control};
 use crate::rig::Rig;
 use live::system::{self, Waited};
-use programs::SETPRIV;
 use reference::packets::{tcp, SYN};
 use std::fs;
 use std::io::{BufRead, BufReader, Read, Write};
@@ -113,18 +113,16 @@ pub fn other_users(rig: &mut Rig) {
     let socket = rig.daemon.socket.clone();
     let mode = || fs::metadata(&socket).unwrap().permissions().mode() & 0o777;
     assert_eq!(mode(), 0o600);
-    // where the build is, others may not look
-    let copy = rig.place.file("nidhaagufctl");
-    fs::copy(control().get_program(), &copy).unwrap();
-    let as_nobody = || {
-        let words = ["--reuid=nobody", "--clear-groups", &copy, "--socket", &socket, "status"];
-        output(SETPRIV.command().args(words))
+    let ask = || {
+        let mut command = control();
+        command.args(["--socket", &socket, "status"]);
+        output(&mut as_nobody(&command, &rig.place))
     };
-    let (code, out, log) = as_nobody();
+    let (code, out, log) = ask();
     assert_eq!((code, out.as_str()), (Some(2), ""), "{log}");
     assert!(log.ends_with(": only the director's user and root may\n"), "{log}");
     fs::set_permissions(&socket, fs::Permissions::from_mode(0o666)).unwrap();
-    let (code, out, log) = as_nobody();
+    let (code, out, log) = ask();
     assert_eq!((code, out.as_str()), (Some(1), ""), "{log}");
     assert_eq!(log, "nidhaagufctl: only user 0 and root may command this director\n");
     rig.daemon.await_log("<4>nidhaagufd: turned user 65534 away from the control socket\n");

@@ -1,11 +1,11 @@
 //! A running daemon, and what is said to it.
 
 use crate::link;
+use crate::place::{command, Place};
 use live::system::{self, Waited};
 use programs::KILL;
 use std::fs;
 use std::io::{BufRead, BufReader, ErrorKind, Read, Write};
-use std::os::unix::fs::PermissionsExt;
 use std::os::unix::net::UnixStream;
 use std::path::PathBuf;
 use std::process::{Child, Command, Stdio};
@@ -13,44 +13,6 @@ use std::time::{Duration, Instant};
 
 /// Long enough for a busy machine; nothing waits so long where all is well.
 pub const PATIENCE: Duration = Duration::from_secs(10);
-
-/// A directory that other users may look into, removed in the end.
-pub struct Place(pub PathBuf);
-
-impl Place {
-    pub fn new(name: &str) -> Place {
-        let own = format!("nidhaaguf-{}-{name}", std::process::id());
-        let path = std::env::temp_dir().join(own);
-        fs::create_dir(&path).unwrap();
-        fs::set_permissions(&path, fs::Permissions::from_mode(0o755)).unwrap();
-        Place(path)
-    }
-
-    pub fn file(&self, name: &str) -> String {
-        self.0.join(name).to_str().unwrap().to_string()
-    }
-}
-
-impl Drop for Place {
-    fn drop(&mut self) {
-        let _ = fs::remove_dir_all(&self.0);
-    }
-}
-
-/// The daemon's command for a configuration in that place; the device and the socket are of the place too.
-pub fn command(place: &Place, config: &str, device: &str, flags: &[&str]) -> Command {
-    let path = place.file("nidhaaguf.conf");
-    fs::write(&path, config).unwrap();
-    let mut command = Command::new(env!("CARGO_BIN_EXE_nidhaagufd"));
-    command.args(["--config", &path, "--device", device, "--socket", &place.file("sock")]);
-    command.args(flags).stdin(Stdio::null()).stdout(Stdio::piped()).stderr(Stdio::piped());
-    command
-}
-
-/// The operator's command.
-pub fn control() -> Command {
-    Command::new(env!("CARGO_BIN_EXE_nidhaagufctl"))
-}
 
 /// A daemon that said it is ready, with its device up.
 pub struct Daemon {

@@ -1,8 +1,9 @@
 //! Starts that can't be, and ends.
 
-use crate::daemon::{command, output, Daemon, Place, PATIENCE};
+use crate::daemon::{output, Daemon, PATIENCE};
 use crate::link::{self, Link};
 use crate::model::{CONFIG, VIRTUAL};
+use crate::place::{command, Place};
 use reference::packets::{tcp, SYN};
 use std::fs;
 use std::io::{Read, Write};

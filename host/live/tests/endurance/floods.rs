@@ -1,9 +1,10 @@
 //! Packets without a pause, and what must go on meanwhile.
 
-use crate::daemon::{Daemon, Place, PATIENCE};
+use crate::daemon::{Daemon, PATIENCE};
 use crate::damage::damaged;
 use crate::link::{self, Link};
 use crate::model::{CONFIG, VIRTUAL};
+use crate::place::Place;
 use crate::rig::Rig;
 use random::Rng;
 use reference::packets::{tcp, ACK, SYN};

@@ -1,7 +1,8 @@
 //! What the log tells, and a log that nobody takes.
 
-use crate::daemon::{ask, command, Daemon, Place, PATIENCE};
+use crate::daemon::{ask, Daemon, PATIENCE};
 use crate::model::{CONFIG, SLOTS};
+use crate::place::{command, Place};
 use crate::rig::Rig;
 use std::fs::OpenOptions;
 use std::os::unix::net::UnixStream;

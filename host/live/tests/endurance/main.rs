@@ -13,6 +13,7 @@ mod link;
 mod logs;
 mod model;
 mod packets;
+mod place;
 mod reloads;
 mod rig;
 mod signals;

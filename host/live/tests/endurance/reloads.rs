@@ -1,7 +1,8 @@
 //! The configuration read anew while the daemon serves.
 
-use crate::daemon::{control, output, Outcome};
+use crate::daemon::{output, Outcome};
 use crate::model::CONFIG;
+use crate::place::control;
 use crate::rig::Rig;
 use std::fs;
 use std::io::{self, BufRead, BufReader, Write};

@@ -1,10 +1,12 @@
 //! A daemon, the link to its device, and the model that tells what it should do.
 
 use crate::counts::Counts;
-use crate::daemon::{Daemon, Place, PATIENCE};
-use crate::link::Link;
+use crate::daemon::{Daemon, PATIENCE};
+use crate::link::{self, Link};
 use crate::model::{Model, CONFIG, SLOTS, VIRTUAL};
+use crate::place::{as_nobody, command, Place};
 use reference::packets::{self, ACK, RST, SYN};
+use std::process::Command;
 use std::time::{Duration, Instant};
 
 /// Fewer than the device's queue takes.
@@ -17,20 +19,33 @@ pub struct Rig {
     pub link: Link,
     pub model: Model,
     pub place: Place,
+    user: User,
     next_port: u16,
+}
+
+/// Who runs the daemon.
+#[derive(Clone, Copy, PartialEq, Eq)]
+pub enum User {
+    Root,
+    /// A user without rights: the place is its own, and the device was made for it.
+    Nobody,
 }
 
 impl Rig {
     pub fn start(name: &str) -> Rig {
-        let place = Place::new(name);
-        let daemon = Daemon::start(&place, CONFIG, &[]);
+        Rig::start_as(User::Root, Place::new(name))
+    }
+
+    pub fn start_as(user: User, place: Place) -> Rig {
+        let daemon = Daemon::run(daemon_of(user, &place, &[]), &place);
+        link::ip("link set nid0 up");
         let expected = format!(
             "ready: 192.0.2.10:5432 tcp, weighted-round-robin, 2 servers, {SLOTS} slots, device nid0, control socket {}\n",
             daemon.socket
         );
         assert_eq!(daemon.ready, expected);
         let link = Link::open("nid0");
-        let mut rig = Rig { daemon, link, model: Model::new(), place, next_port: 1_024 };
+        let mut rig = Rig { daemon, link, model: Model::new(), place, user, next_port: 1_024 };
         rig.must_serve();
         rig
     }
@@ -122,7 +137,7 @@ impl Rig {
     pub fn take_over(&mut self) -> String {
         let used = self.model.counts().get("nidhaaguf_slots_used");
         let expected = self.send_ahead(&self.model.packets_of_all(ACK));
-        let next = Daemon::take_over(&self.place, CONFIG, &[]);
+        let next = Daemon::run(daemon_of(self.user, &self.place, &["--take-over"]), &self.place);
         self.must_receive(expected);
         assert!(next.words.starts_with(&format!("took over {used} connections at clock ")));
         assert!(next.words.ends_with(", weights kept\n"), "{}", next.words);
@@ -147,7 +162,8 @@ impl Rig {
 
     /// Starts the daemon that was ended, on a new device.
     pub fn start_again(&mut self) {
-        self.daemon = Daemon::start(&self.place, CONFIG, &[]);
+        self.daemon = Daemon::run(daemon_of(self.user, &self.place, &[]), &self.place);
+        link::ip("link set nid0 up");
         self.link = Link::open("nid0");
     }
 
@@ -155,5 +171,14 @@ impl Rig {
     pub fn new_port(&mut self) -> u16 {
         self.next_port += 1;
         self.next_port
+    }
+}
+
+/// The daemon's command for a user.
+fn daemon_of(user: User, place: &Place, flags: &[&str]) -> Command {
+    let command = command(place, CONFIG, "nid0", flags);
+    match user {
+        User::Root => command,
+        User::Nobody => as_nobody(&command, place),
     }
 }

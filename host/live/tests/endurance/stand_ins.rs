@@ -1,8 +1,9 @@
 //! Stand-ins for the next process, which do what a good one doesn't; and processes that are killed or stopped in the middle.
 
-use crate::daemon::{command, control, output, Daemon, PATIENCE};
+use crate::daemon::{output, Daemon, PATIENCE};
 use crate::link::Link;
 use crate::model::{CONFIG, VIRTUAL};
+use crate::place::{command, control};
 use crate::rig::Rig;
 use live::handover::request::Request;
 use live::handover::take::{take, Taken};

@@ -1,12 +1,12 @@
 //! Take-overs by a real process: what goes on meanwhile, and those that are refused.
 
 use crate::counts::Counts;
-use crate::daemon::{command, control, output, Daemon, Place, PATIENCE};
+use crate::daemon::{output, Daemon, PATIENCE};
 use crate::floods::Stops;
 use crate::link::Link;
 use crate::model::{CONFIG, VIRTUAL};
+use crate::place::{as_nobody, command, control, Place};
 use crate::rig::Rig;
-use programs::SETPRIV;
 use reference::packets::{tcp, ACK, SYN};
 use std::fs;
 use std::io::{BufRead, BufReader};
@@ -161,17 +161,12 @@ fn must_be_refused(rig: &mut Rig, mut command: std::process::Command, reason: &s
 pub fn other_users(rig: &mut Rig) {
     let socket = rig.daemon.socket.clone();
     let command = command(&rig.place, CONFIG, "nid0", &["--take-over"]);
-    // where the build is, others may not look
-    let copy = rig.place.file("nidhaagufd");
-    fs::copy(command.get_program(), &copy).unwrap();
     for (mode, words) in [
         (0o600, format!("no director serves at {socket}: Permission denied (os error 13)\n")),
         (0o666, "hands nothing over: only user 0 and root may command this director\n".into()),
     ] {
         fs::set_permissions(&socket, fs::Permissions::from_mode(mode)).unwrap();
-        let mut as_nobody = SETPRIV.command();
-        as_nobody.args(["--reuid=nobody", "--clear-groups", &copy]).args(command.get_args());
-        let (code, out, log) = output(&mut as_nobody);
+        let (code, out, log) = output(&mut as_nobody(&command, &rig.place));
         assert_eq!((code, out.as_str()), (Some(1), ""), "{log}");
         assert!(log.ends_with(&words), "{log}");
         rig.must_serve();
