@@ -83,10 +83,27 @@ fn serve(config: &Config, instance: Instance, mut around: Around<'_>) -> Result<
         Ok(End::Signal(signal)) => Ok(format!("ended by {signal}; {counts}")),
         Err(complaint) => Err(Failure::Failed(format!("{complaint}; {counts}"))),
     };
+    let saved = save(config, &instance, around.log);
+    // the last line is the failure's, if there is one
+    match (last, saved) {
+        (Ok(line), saved) => {
+            around.log.notice(&line);
+            saved.map_err(Failure::Failed)
+        }
+        (Err(failure), Ok(())) => Err(failure),
+        (Err(failure), Err(complaint)) => {
+            around.log.error(&complaint);
+            Err(failure)
+        }
+    }
+}
+
+/// Keeps the director for the next start.
+fn save(config: &Config, instance: &Instance, log: &mut Log) -> Result<(), String> {
     let (path, connections) = (&config.state.value, instance.director().used());
-    file::save(path, &Snapshot::of(&instance, around.log)).map_err(Failure::Failed)?;
-    around.log.notice(&format!("saved {connections} connections in {}", path.display()));
-    last.map(|line| around.log.notice(&line))
+    file::save(path, &Snapshot::of(instance, log))?;
+    log.notice(&format!("saved {connections} connections in {}", path.display()));
+    Ok(())
 }
 
 fn ready_line(config: &Config) -> String {
