@@ -150,7 +150,8 @@ impl Daemon {
         self.outcome()
     }
 
-    fn outcome(&mut self) -> Outcome {
+    /// The same of a daemon that is replaced later.
+    pub fn outcome(&mut self) -> Outcome {
         let (code, out, rest) = outcome(&mut self.child);
         (code, out, format!("{}{rest}", self.log))
     }

@@ -110,7 +110,8 @@ pub fn idle_daemon() {
     daemon.end_by("INT");
 }
 
-fn await_metric(daemon: &Daemon, line: &str) {
+/// Waits until the metrics have that line.
+pub fn await_metric(daemon: &Daemon, line: &str) {
     let deadline = Instant::now() + PATIENCE;
     while !daemon.text("metrics").lines().any(|found| found == line) {
         assert!(Instant::now() < deadline, "{line} doesn't come");

@@ -1,17 +1,23 @@
-//! A network namespace, and a socket at the kernel's side of the daemon's device: what it sends, the daemon reads; what the
-//! daemon writes, it receives.
+//! A network namespace and mounts of a test's own, and a socket at the kernel's side of the daemon's device: what it sends,
+//! the daemon reads; what the daemon writes, it receives.
 
 use live::system::{self, Waited};
 use programs::IP;
-use std::ffi::{c_void, CString};
+use std::ffi::{c_char, c_void, CString};
 use std::fs;
 use std::io::{self, ErrorKind, Write};
 use std::mem::size_of;
 use std::os::fd::{AsRawFd, FromRawFd, OwnedFd};
+use std::os::unix::fs::{MetadataExt, PermissionsExt};
 use std::path::Path;
 use std::time::{Duration, Instant};
 
 const CLONE_NEWNET: i32 = 0x4000_0000;
+const CLONE_NEWNS: i32 = 0x0002_0000;
+const MNT_DETACH: i32 = 2;
+const MS_BIND: u64 = 0x1000;
+const MS_REC: u64 = 0x4000;
+const MS_PRIVATE: u64 = 0x4_0000;
 const AF_PACKET: i32 = 17;
 const SOCK_DGRAM: i32 = 2;
 const SOL_SOCKET: i32 = 1;
@@ -30,13 +36,22 @@ struct LinkAddress {
 
 extern "C" {
     fn unshare(flags: i32) -> i32;
+    fn mount(
+        source: *const c_char,
+        target: *const c_char,
+        kind: *const c_char,
+        flags: u64,
+        options: *const c_char,
+    ) -> i32;
+    fn umount2(target: *const c_char, flags: i32) -> i32;
+    fn mknod(path: *const c_char, mode: u32, device: u64) -> i32;
     fn socket(domain: i32, kind: i32, protocol: i32) -> i32;
     fn bind(descriptor: i32, address: *const LinkAddress, length: u32) -> i32;
     fn send(descriptor: i32, bytes: *const u8, length: usize, flags: i32) -> isize;
     fn recv(descriptor: i32, bytes: *mut u8, length: usize, flags: i32) -> isize;
     fn setsockopt(descriptor: i32, level: i32, name: i32, value: *const c_void, length: u32)
         -> i32;
-    fn if_nametoindex(name: *const std::ffi::c_char) -> u32;
+    fn if_nametoindex(name: *const c_char) -> u32;
 }
 
 /// Gives the calling thread, and what it starts from now on, a network of its own. An error says why that isn't possible.
@@ -54,6 +69,49 @@ pub fn enter_own_network() -> Result<(), String> {
     // else the kernel sends packets of its own into the device; where there is no IPv6 it doesn't
     let _ = fs::write("/proc/sys/net/ipv6/conf/default/disable_ipv6", "1");
     Ok(())
+}
+
+/// Something mounted, until this goes.
+pub struct Mounted(CString);
+
+impl Drop for Mounted {
+    fn drop(&mut self) {
+        // SAFETY: the path ends in a zero and lives through the call.
+        unsafe { umount2(self.0.as_ptr(), MNT_DETACH) };
+    }
+}
+
+/// Mounts a file system of 64 KiB at that directory, for the calling thread and what it starts.
+pub fn mount_small(directory: &str) -> Mounted {
+    // SAFETY: unshare takes any number; this one changes nothing but what the thread sees mounted.
+    assert_eq!(unsafe { unshare(CLONE_NEWNS) }, 0, "{}", io::Error::last_os_error());
+    // else it would be seen by all
+    std::mem::forget(mount_at("none", "/", MS_REC | MS_PRIVATE, ""));
+    mount_at("tmpfs", directory, 0, "size=64k")
+}
+
+/// Lets every user open /dev/net/tun, as it is where udev runs, for the calling thread and what it starts. The directory is
+/// taken for it.
+pub fn open_tun_to_all(directory: &str) -> [Mounted; 2] {
+    let small = mount_small(directory);
+    let tun = "/dev/net/tun";
+    let (own, kind) = (format!("{directory}/tun"), fs::metadata(tun).unwrap());
+    let path = CString::new(own.as_str()).unwrap();
+    // SAFETY: the path ends in a zero and lives through the call.
+    let made = unsafe { mknod(path.as_ptr(), kind.mode(), kind.rdev()) };
+    assert_eq!(made, 0, "{}", io::Error::last_os_error());
+    fs::set_permissions(&own, fs::Permissions::from_mode(0o666)).unwrap();
+    [mount_at(&own, tun, MS_BIND, ""), small]
+}
+
+fn mount_at(source: &str, target: &str, flags: u64, options: &str) -> Mounted {
+    let texts = [source, target, "tmpfs", options].map(|text| CString::new(text).unwrap());
+    let [from, to, kind, options] = texts.each_ref().map(|text| text.as_ptr());
+    // SAFETY: the texts end in a zero and live through the call.
+    let mounted = unsafe { mount(from, to, kind, flags, options) };
+    assert_eq!(mounted, 0, "{target}: {}", io::Error::last_os_error());
+    let [_, target, ..] = texts;
+    Mounted(target)
 }
 
 /// Says something past the capture of the test's output.

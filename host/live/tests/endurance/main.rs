@@ -15,9 +15,11 @@ mod model;
 mod packets;
 mod place;
 mod reloads;
+mod restarts;
 mod rig;
 mod signals;
 mod stand_ins;
+mod state_files;
 mod takeovers;
 
 use rig::Rig;
@@ -164,5 +166,30 @@ fn takeovers_in_which_one_is_killed() {
         stand_ins::killed_before_it_sends();
         stand_ins::killed_after_it_has_sent();
         stand_ins::stopped_while_it_waits();
+    });
+}
+
+#[test]
+fn restarts_with_a_state_file() {
+    in_own_network("endurance of restarts", || {
+        let mut rig = Rig::start("restarts");
+        restarts::by_each_signal(&mut rig);
+        restarts::file_between(&mut rig);
+        restarts::without_its_device(&mut rig);
+        restarts::with_take_overs(&mut rig);
+        restarts::killed(&mut rig);
+        state_files::bad_files(&mut rig);
+        state_files::of_another_boot(&mut rig);
+        rig.daemon.end_by("TERM");
+    });
+}
+
+#[test]
+fn restarts_of_other_kinds() {
+    in_own_network("endurance of restarts of other kinds", || {
+        restarts::idle_meanwhile();
+        restarts::without_root();
+        restarts::without_a_folder();
+        restarts::on_a_full_disk();
     });
 }
