@@ -122,9 +122,11 @@ impl Connection {
         matches!(&self.stage, Stage::Watching { shown, .. } if shown == status)
     }
 
-    /// When it must have come further; a watch that has read all may wait as long as it likes.
+    /// When it must have come further. A watch that has read all may wait as long as it likes, and it isn't a client's fault
+    /// that its command is answered late.
     pub fn deadline(&self) -> Option<Instant> {
-        (!self.awaits_change()).then_some(self.deadline)
+        let waits = self.awaits_change() || self.has_command();
+        (!waits).then_some(self.deadline)
     }
 
     /// Whether it is to be closed.
