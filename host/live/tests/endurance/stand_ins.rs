@@ -121,7 +121,7 @@ pub fn silent(rig: &mut Rig) {
 pub fn late(rig: &mut Rig) {
     let openings = rig.openings(5);
     rig.send(&openings);
-    let taken = take_all(rig);
+    let (taken, mut client) = take_before_a_client(rig);
     let expected = rig.send_ahead(&rig.model.packets_of_all(ACK));
     let asked = Instant::now();
     let (code, out, log) = output(control().args(["--socket", &rig.daemon.socket, "status"]));
@@ -129,12 +129,27 @@ pub fn late(rig: &mut Rig) {
     assert!(out.contains(", 5 of 64 slots used, "), "{out}");
     assert!(asked.elapsed() > live::handover::PATIENCE / 2, "nobody had to wait");
     rig.daemon.await_log(": the other process has not answered within 5 s; serving on\n");
+    let mut answer = String::new();
+    client.read_to_string(&mut answer).unwrap();
+    assert_eq!(answer, "ok\n3\n");
     rig.must_receive(expected);
     rig.check();
     let late = taken.giver.serve();
     assert_eq!(late, Err("the other process waited no longer, and serves on".into()));
     rig.end_all();
     rig.must_serve();
+}
+
+/// One that has all, and a client that has asked for a count after it and is let in with it.
+fn take_before_a_client(rig: &Rig) -> (Taken, UnixStream) {
+    stop(&rig.daemon);
+    let socket = rig.daemon.socket.clone();
+    let taker = thread::spawn(move || take(Path::new(&socket), request()).unwrap());
+    await_clients(rig, 1);
+    let mut client = rig.daemon.connect();
+    client.write_all(b"count 0\n").unwrap();
+    rig.daemon.signal("CONT");
+    (taker.join().unwrap(), client)
 }
 
 /// Two processes that ask before either is answered: one serves in the end, the other one and the old one have ended.

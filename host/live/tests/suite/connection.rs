@@ -79,6 +79,19 @@ fn silence_ends_the_connection() {
     assert!(connection.is_over(now));
 }
 
+/// As while a take-over fails, for which the director is needed.
+#[test]
+fn a_command_may_be_answered_late() {
+    let now = Instant::now();
+    let (mut client, mut connection) = pair(now);
+    client.write_all(b"status\n").unwrap();
+    connection.exchange();
+    assert!(connection.has_command() && !connection.is_over(now + 2 * PATIENCE));
+    let late = now + 2 * PATIENCE;
+    connection.answer(&"x".repeat(1 << 20), late);
+    assert!(!connection.is_over(late) && connection.is_over(late + PATIENCE));
+}
+
 #[test]
 fn an_answer_must_be_read() {
     let now = Instant::now();
