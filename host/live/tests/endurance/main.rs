@@ -9,6 +9,7 @@ mod daemon;
 mod damage;
 mod endings;
 mod floods;
+mod killed;
 mod link;
 mod logs;
 mod model;
@@ -143,7 +144,6 @@ fn takeovers_by_stand_ins() {
         stand_ins::gone_at_each_step(&mut rig);
         stand_ins::nonsense(&mut rig);
         stand_ins::two_at_once(&mut rig);
-        stand_ins::stopped_taker(&mut rig);
         stand_ins::silent(&mut rig);
         rig.daemon.end_by("TERM");
     });
@@ -162,10 +162,11 @@ fn takeovers_that_come_too_late() {
 #[test]
 fn takeovers_in_which_one_is_killed() {
     in_own_network("endurance of take-overs in which one is killed", || {
-        stand_ins::killed_takers();
-        stand_ins::killed_before_it_sends();
-        stand_ins::killed_after_it_has_sent();
-        stand_ins::stopped_while_it_waits();
+        killed::takers();
+        killed::before_it_sends();
+        killed::after_it_has_sent();
+        killed::stopped_while_it_waits();
+        killed::stopped_taker();
     });
 }
 

@@ -1,22 +1,21 @@
-//! Stand-ins for the next process, which do what a good one doesn't; and processes that are killed or stopped in the middle.
+//! Stand-ins for the next process, which do what a good one doesn't.
 
 use crate::daemon::{output, Daemon, PATIENCE};
-use crate::link::Link;
-use crate::model::{CONFIG, VIRTUAL};
+use crate::model::CONFIG;
 use crate::place::{command, control};
 use crate::rig::Rig;
 use live::handover::request::Request;
 use live::handover::take::{take, Taken};
 use nidhaaguf::Protocol;
-use reference::packets::{tcp, ACK};
-use std::fs::{self, File};
-use std::io::{Read, Write};
+use reference::packets::ACK;
+use std::fs;
+use std::io::{BufRead, BufReader, Read, Write};
 use std::os::unix::net::UnixStream;
 use std::path::Path;
 use std::thread;
 use std::time::{Duration, Instant};
 
-fn request() -> Request {
+pub fn request() -> Request {
     Request::new(("192.0.2.10:5432".parse().unwrap(), Protocol::Tcp))
 }
 
@@ -28,12 +27,12 @@ fn ask(rig: &Rig) -> UnixStream {
 }
 
 /// One that has all, and has said nothing yet.
-fn take_all(rig: &Rig) -> Taken {
+pub fn take_all(rig: &Rig) -> Taken {
     take(Path::new(&rig.daemon.socket), request()).unwrap()
 }
 
 /// Waits for a condition.
-fn wait_until(what: &str, mut is_so: impl FnMut() -> bool) {
+pub fn wait_until(what: &str, mut is_so: impl FnMut() -> bool) {
     let deadline = Instant::now() + PATIENCE;
     while !is_so() {
         assert!(Instant::now() < deadline, "{what}: it doesn't come to that");
@@ -42,7 +41,7 @@ fn wait_until(what: &str, mut is_so: impl FnMut() -> bool) {
 }
 
 /// Waits until so many clients are connected at the daemon's socket, let in or not.
-fn await_clients(rig: &Rig, clients: usize) {
+pub fn await_clients(rig: &Rig, clients: usize) {
     // the listening socket has the name too
     let sockets = || fs::read_to_string("/proc/thread-self/net/unix").unwrap();
     let name = format!(" {}\n", rig.daemon.socket);
@@ -50,7 +49,7 @@ fn await_clients(rig: &Rig, clients: usize) {
 }
 
 /// Stops a daemon, surely.
-fn stop(daemon: &Daemon) {
+pub fn stop(daemon: &Daemon) {
     daemon.signal("STOP");
     let stat = format!("/proc/{}/stat", daemon.process());
     wait_until("the daemon stops", || fs::read_to_string(&stat).unwrap().contains(") T "));
@@ -58,16 +57,9 @@ fn stop(daemon: &Daemon) {
 
 /// One that has gone after it asked, after the first byte, after half of the state, and after all of it.
 pub fn gone_at_each_step(rig: &mut Rig) {
-    let mut stream = ask(rig);
-    let mut line = Vec::new();
-    while line.last() != Some(&b'\n') {
-        let mut byte = [0];
-        stream.read_exact(&mut byte).unwrap();
-        line.push(byte[0]);
-    }
-    drop(stream);
-    let words = String::from_utf8(line.clone()).unwrap();
-    let state: usize = words.trim_end().strip_prefix("state ").unwrap().parse().unwrap();
+    let mut line = String::new();
+    BufReader::new(ask(rig)).read_line(&mut line).unwrap();
+    let state: usize = line.trim_end().strip_prefix("state ").unwrap().parse().unwrap();
     let all = line.len() + state;
     for (time, length) in
         [0, 1, line.len(), line.len() + state / 2, all - 1, all].iter().enumerate()
@@ -175,99 +167,4 @@ pub fn two_at_once(rig: &mut Rig) {
     rig.check();
     rig.end_all();
     rig.must_serve();
-}
-
-/// The new one is stopped while it waits for the old one, and goes on later: nothing is lost by that.
-pub fn stopped_taker(rig: &mut Rig) {
-    let openings = rig.openings(5);
-    rig.send(&openings);
-    stop(&rig.daemon);
-    let next = command(&rig.place, CONFIG, "nid0", &["--take-over"]).spawn().unwrap();
-    let mut next = Daemon::of_child(next, &rig.place);
-    await_clients(rig, 1);
-    stop(&next);
-    next.signal("CONT");
-    rig.daemon.signal("CONT");
-    next.await_ready();
-    let (code, _, log) = std::mem::replace(&mut rig.daemon, next).wait();
-    assert_eq!(code, Some(0), "{log}");
-    rig.check();
-    rig.end_all();
-}
-
-/// New processes that are killed sooner or later: the old one serves on, unless it has handed all over by then.
-pub fn killed_takers() {
-    let (mut served_on, mut handed_over) = (0, 0);
-    for delay in (0..40).map(|number| Duration::from_micros(150 * number)) {
-        let mut rig = Rig::start("killed");
-        let openings = rig.openings(5);
-        rig.send(&openings);
-        let next = command(&rig.place, CONFIG, "nid0", &["--take-over"]).spawn().unwrap();
-        let next = Daemon::of_child(next, &rig.place);
-        thread::sleep(delay);
-        next.kill();
-        let (code, ..) = output(control().args(["--socket", &rig.daemon.socket, "status"]));
-        if code == Some(0) {
-            rig.check();
-            rig.end_all();
-            served_on += 1;
-        } else {
-            let (code, _, log) = rig.daemon.wait();
-            assert_eq!(code, Some(0), "{log}");
-            assert!(log.contains("<5>nidhaagufd: handed 5 connections over to process "), "{log}");
-            handed_over += 1;
-        }
-    }
-    assert!(served_on > 0, "{served_on} {handed_over}");
-}
-
-/// The old one is killed before it has sent anything: there is nothing to take over.
-pub fn killed_before_it_sends() {
-    let rig = Rig::start("killed-early");
-    stop(&rig.daemon);
-    let socket = rig.daemon.socket.clone();
-    let taker = thread::spawn(move || take(Path::new(&socket), request()).map(|_| ()));
-    await_clients(&rig, 1);
-    rig.daemon.signal("KILL");
-    let complaint = taker.join().unwrap().unwrap_err();
-    assert!(complaint.contains(" hands nothing over: "), "{complaint}");
-}
-
-/// The old one is killed after it has sent all: who has it may serve, and the device is still there.
-pub fn killed_after_it_has_sent() {
-    let rig = Rig::start("killed-late");
-    let Taken { device, listener, snapshot, giver } = take_all(&rig);
-    let Rig { daemon, link, place, .. } = rig;
-    daemon.signal("KILL");
-    assert_eq!(daemon.wait().0, None);
-    assert_eq!(giver.serve(), Ok(()));
-    must_reach(&link, &mut File::from(device));
-    assert_eq!(snapshot.row.len(), 5 * crate::model::SLOTS);
-    let _client = UnixStream::connect(place.file("sock")).unwrap();
-    wait_until("a client is let in", || listener.accept().is_ok());
-}
-
-/// What is sent into the device comes to who has it open.
-fn must_reach(link: &Link, device: &mut File) {
-    let packet = tcp((0x0A00_0001, 9), VIRTUAL, ACK).build();
-    link.send(&packet);
-    let mut bytes = [0; 100];
-    let length = device.read(&mut bytes).unwrap();
-    assert_eq!(bytes[..length], packet);
-}
-
-/// The old one is stopped while it waits for the answer, and goes on later, as under a debugger: since the other one says
-/// meanwhile that it serves, it must not serve on.
-pub fn stopped_while_it_waits() {
-    let rig = Rig::start("stopped");
-    let Taken { device, giver, .. } = take_all(&rig);
-    stop(&rig.daemon);
-    assert_eq!(giver.serve(), Ok(()));
-    let Rig { daemon, link, place, .. } = rig;
-    daemon.signal("CONT");
-    let (code, _, log) = daemon.wait();
-    assert_eq!(code, Some(0), "{log}");
-    assert!(log.contains("<5>nidhaagufd: handed 0 connections over to process "), "{log}");
-    must_reach(&link, &mut File::from(device));
-    assert!(Path::new(&place.file("sock")).exists());
 }

@@ -7,6 +7,7 @@ use crate::link::Link;
 use crate::model::{CONFIG, VIRTUAL};
 use crate::place::{as_nobody, command, control, Place};
 use crate::rig::Rig;
+use crate::stand_ins::wait_until;
 use reference::packets::{tcp, ACK, SYN};
 use std::fs;
 use std::io::{BufRead, BufReader};
@@ -74,7 +75,7 @@ pub fn under_a_flood() {
     link.send(&tcp(client, VIRTUAL, SYN).build());
     link.receive(PATIENCE).expect("no packet comes out");
     let stop = AtomicBool::new(false);
-    let received = thread::scope(|scope| {
+    let mut received = thread::scope(|scope| {
         let flood = scope.spawn(|| flood(&link, &tcp(client, VIRTUAL, ACK).build(), &stop));
         let stops = Stops(&stop);
         for _ in 0..5 {
@@ -88,7 +89,10 @@ pub fn under_a_flood() {
         drop(stops);
         flood.join().unwrap()
     });
-    assert_eq!(kept(&daemon), received);
+    wait_until("all that is counted has come", || {
+        received += received_within(&link, Duration::from_millis(100));
+        kept(&daemon) == received
+    });
     assert!(received > 1_000, "only {received} packets");
     daemon.end_by("TERM");
 }
@@ -99,21 +103,20 @@ fn kept(daemon: &Daemon) -> u64 {
     Counts::of_metrics(&daemon.text("metrics")).get(name)
 }
 
-/// Sends a packet over and over and takes what comes back; tells how many came, all in all.
+/// Sends a packet over and over and takes what comes back; tells how many came.
 fn flood(link: &Link, packet: &[u8], stop: &AtomicBool) -> u64 {
     let mut received = 0;
     while !stop.load(Ordering::Relaxed) {
         // what the queue has no room for is lost, as it would be on any link
         (0..256).for_each(|_| _ = link.offer(packet));
-        while link.receive(Duration::from_millis(1)).is_some() {
-            received += 1;
-        }
-    }
-    // what was still on its way
-    while link.receive(Duration::from_millis(300)).is_some() {
-        received += 1;
+        received += received_within(link, Duration::from_millis(1));
     }
     received
+}
+
+/// How many packets come, until none has come for that time.
+fn received_within(link: &Link, time: Duration) -> u64 {
+    std::iter::from_fn(|| link.receive(time)).count() as u64
 }
 
 /// Another configuration than the old process has: told with its line or flag, by both; the old one serves on at once.

@@ -3,13 +3,12 @@
 use crate::damage::with_right_checksum;
 use crate::support::*;
 use live::handover::give::give;
-use live::handover::layout::{self, LAYOUT};
+use live::handover::layout;
 use live::handover::request::Request;
 use live::handover::take::{take, Taken};
 use live::handover::{snapshot::Snapshot, PATIENCE};
 use live::system::{self, descriptors};
 use nidhaaguf::Protocol;
-use std::fs::File;
 use std::io::{self, BufRead, BufReader, PipeWriter, Read, Write};
 use std::net::Shutdown;
 use std::os::fd::AsFd;
@@ -67,57 +66,6 @@ impl Place {
         assert_eq!(descriptors::send(stream, line.as_bytes(), files).unwrap(), line.len());
         (&*stream).write_all(bytes).unwrap();
         serves_on
-    }
-}
-
-#[test]
-fn requests_are_lines() {
-    let request = request();
-    assert_eq!(request.line(), "take-over 1 192.0.2.10:5432 tcp\n");
-    assert_eq!(Request::read(&request.line()), Some(Ok(request)));
-    let other = Request { layout: u32::MAX, protocol: Protocol::Udp, ..request };
-    assert_eq!(Request::read(&other.line()), Some(Ok(other)));
-    for line in ["", "status", "take-overs 1 192.0.2.10:5432 tcp", "1 take-over"] {
-        assert_eq!(Request::read(line), None);
-    }
-    let form = "expected `take-over LAYOUT ADDRESS:PORT PROTOCOL`";
-    for (line, words) in [
-        ("take-over", form),
-        ("take-over 1 192.0.2.10:5432", form),
-        ("take-over 1 192.0.2.10:5432 tcp now", form),
-        ("take-over x 192.0.2.10:5432 tcp", "expected a layout's number, got \"x\""),
-        (
-            "take-over 4294967296 192.0.2.10:5432 tcp",
-            "expected a layout's number, got \"4294967296\"",
-        ),
-        (
-            "take-over 1 192.0.2.10 tcp",
-            "expected an IPv4 address and a port, as 192.0.2.10:5432, got \"192.0.2.10\"",
-        ),
-        ("take-over 1 192.0.2.10:5432 sctp", "expected a protocol: tcp or udp, got \"sctp\""),
-    ] {
-        assert_eq!(Request::read(line), Some(Err(words.into())));
-    }
-}
-
-#[test]
-fn requests_for_another_director_are_refused() {
-    let (instance, request) = (instance(), request());
-    assert_eq!(request.check(&instance), Ok(()));
-    let served = "is asked for, and 192.0.2.10:5432 tcp is served here";
-    let service = "192.0.2.10:5433".parse().unwrap();
-    for (other, words) in [
-        (
-            Request { layout: 2, ..request },
-            format!("layout 2 is asked for, and this program's is {LAYOUT}"),
-        ),
-        (Request { service, ..request }, format!("the service 192.0.2.10:5433 tcp {served}")),
-        (
-            Request { protocol: Protocol::Udp, ..request },
-            format!("the service 192.0.2.10:5432 udp {served}"),
-        ),
-    ] {
-        assert_eq!(other.check(&instance), Err(words));
     }
 }
 
@@ -206,13 +154,8 @@ fn silence_is_waited_for_5_seconds() {
         is_over.recv().unwrap();
         giver.serve()
     });
-    let (mut dripping, other_end) = UnixStream::pair().unwrap();
-    let drip = thread::spawn(move || {
-        // never a line's end
-        while dripping.write_all(b"s").is_ok() {
-            thread::sleep(Duration::from_millis(100));
-        }
-    });
+    let (dripping, other_end) = UnixStream::pair().unwrap();
+    let drip = thread::spawn(|| drip(dripping));
     thread::scope(|scope| {
         let silent = scope.spawn(|| time_of_failure(&place, place.asked()));
         let dripped = scope.spawn(|| time_of_failure(&place, other_end));
@@ -226,6 +169,13 @@ fn silence_is_waited_for_5_seconds() {
     let late = taker.join().unwrap();
     assert_eq!(late, Err("the other process waited no longer, and serves on".into()));
     drip.join().unwrap();
+}
+
+/// Says a byte now and then, and never a whole line.
+fn drip(mut stream: UnixStream) {
+    while stream.write_all(b"s").is_ok() {
+        thread::sleep(Duration::from_millis(100));
+    }
 }
 
 /// One that doesn't read, at a socket without room for all.
@@ -313,11 +263,4 @@ fn files_and_a_director_are_missing() {
     drop(place);
     let complaint = take(&socket, request()).unwrap_err();
     assert!(complaint.starts_with("no director serves at "), "{complaint}");
-}
-
-/// Other files than a device and a socket pass as they are: what they are good for is judged by who gets them.
-#[test]
-fn a_device_is_told_by_its_name() {
-    let other = File::open("/dev/null").unwrap();
-    assert!(system::interface_name(&other).is_err());
 }

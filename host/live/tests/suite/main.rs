@@ -12,6 +12,7 @@ mod log;
 mod packet_thread;
 mod packets;
 mod reload;
+mod request;
 mod signals;
 mod snapshot;
 mod state_file;
