@@ -125,16 +125,21 @@ pub fn ip(words: &str) {
     assert!(output.status.success(), "ip {words}: {}", String::from_utf8_lossy(&output.stderr));
 }
 
+/// The number of the device of that name; None where there is none.
+pub fn device_number(name: &str) -> Option<i32> {
+    let name = CString::new(name).unwrap();
+    // SAFETY: the name ends in a zero and lives through the call.
+    let number = unsafe { if_nametoindex(name.as_ptr()) } as i32;
+    (number > 0).then_some(number)
+}
+
 /// The socket.
 pub struct Link(OwnedFd);
 
 impl Link {
     /// At the device of that name.
     pub fn open(device: &str) -> Link {
-        let name = CString::new(device).unwrap();
-        // SAFETY: the name ends in a zero and lives through the call.
-        let interface = unsafe { if_nametoindex(name.as_ptr()) } as i32;
-        assert!(interface > 0, "no device {device}");
+        let interface = device_number(device).expect("there is no such device");
         let protocol = IPV4.to_be();
         // SAFETY: plain numbers; a descriptor that isn't negative is new and nobody else's.
         let descriptor = unsafe { socket(AF_PACKET, SOCK_DGRAM, i32::from(protocol)) };

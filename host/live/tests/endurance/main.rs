@@ -127,11 +127,13 @@ fn takeovers_by_processes() {
     in_own_network("endurance of take-overs", || {
         let mut rig = Rig::start("takeovers");
         takeovers::ten_in_a_row(&mut rig);
+        takeovers::changed_weights(&mut rig);
         takeovers::other_configurations(&mut rig);
         takeovers::other_users(&mut rig);
         takeovers::other_layouts(&mut rig);
         rig.take_over();
         rig.daemon.end_by("TERM");
+        assert_eq!(link::device_number("nid0"), None, "the device is still there");
         takeovers::nobody_there();
         takeovers::under_a_flood();
     });

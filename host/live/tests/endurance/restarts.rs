@@ -118,7 +118,7 @@ pub fn idle_meanwhile() {
     daemon.end_by("TERM");
 }
 
-/// On a device that was made for it, the daemon needs no root, and the device stays over restarts with what comes meanwhile.
+/// On a device that was made for it, the daemon needs no root, and the device stays over restarts.
 pub fn without_root() {
     let place = Place::new("without-root");
     let devices = Place::new("devices");
@@ -131,19 +131,14 @@ pub fn without_root() {
     open_more(&mut rig);
     rig.take_over();
     open_more(&mut rig);
-    rig.daemon.must_end_by("TERM");
-    let link = Link::open("nid0");
-    rig.start_again();
-    rig.check();
-    // the same device as before
-    link.send(&tcp((0x0A00_0001, 9), VIRTUAL, ACK).build());
-    assert_eq!(rig.model.take(&tcp((0x0A00_0001, 9), VIRTUAL, ACK).build()), None);
-    rig.await_packets();
+    let device = link::device_number("nid0");
+    rig.restart("TERM");
+    assert_eq!(link::device_number("nid0"), device);
     rig.take_over();
     open_more(&mut rig);
     rig.end_all();
     rig.daemon.end_by("TERM");
-    link::ip("link show nid0");
+    assert_eq!(link::device_number("nid0"), device);
     link::ip("tuntap del dev nid0 mode tun");
 }
 

@@ -119,6 +119,27 @@ fn received_within(link: &Link, time: Duration) -> u64 {
     std::iter::from_fn(|| link.receive(time)).count() as u64
 }
 
+/// A weight that was changed in the file meanwhile is told, and set by a reload.
+pub fn changed_weights(rig: &mut Rig) {
+    let config = CONFIG.replace("weight 2", "weight 7");
+    let next = Daemon::take_over(&rig.place, &config, &[]);
+    let (code, _, log) = std::mem::replace(&mut rig.daemon, next).wait();
+    assert_eq!(code, Some(0), "{log}");
+    let place = format!("{} line 4", rig.place.file("nidhaaguf.conf"));
+    rig.daemon.await_log(&format!(
+        "<5>nidhaagufd: {place}: weight 7 of server 0 is not set yet: a reload sets it\n"
+    ));
+    rig.check();
+    assert_eq!(rig.daemon.text("reload"), "server 0 (10.1.0.5:6432): weight 2 -> 7\n");
+    rig.model.set_weight(0, 7);
+    rig.must_serve();
+    // the configured weight is handed on as well: the file of before asks for a change now
+    rig.take_over();
+    assert_eq!(rig.daemon.text("reload"), "server 0 (10.1.0.5:6432): weight 7 -> 2\n");
+    rig.model.set_weight(0, 2);
+    rig.must_serve();
+}
+
 /// Another configuration than the old process has: told with its line or flag, by both; the old one serves on at once.
 pub fn other_configurations(rig: &mut Rig) {
     let openings = rig.openings(3);
