@@ -7,7 +7,7 @@ use super::timed::Timed;
 use super::{PATIENCE, REFUSED, SERVING, STATE};
 use crate::system::descriptors;
 use std::fs::File;
-use std::io::{self, Read, Write};
+use std::io::{self, ErrorKind, Read, Write};
 use std::os::fd::OwnedFd;
 use std::os::unix::net::{UnixListener, UnixStream};
 use std::path::Path;
@@ -43,14 +43,19 @@ fn receive(mut stream: Timed, request: Request) -> io::Result<Result<Taken, Stri
     let _ = stream.write(request.line().as_bytes());
     stream.stream.set_read_timeout(stream.left()?)?;
     let mut first = [0];
-    let (length, files) = descriptors::receive(&stream.stream, &mut first)?;
+    let (length, files) = match descriptors::receive(&stream.stream, &mut first) {
+        // gone before it has read the request
+        Err(error) if error.kind() == ErrorKind::ConnectionReset => (0, Vec::new()),
+        received => received?,
+    };
     let mut line = first[..length].to_vec();
     stream.read_line(&mut line, MOST_LINE)?;
     let line = String::from_utf8_lossy(&line).trim_end().to_string();
     let Some(number) = line.strip_prefix(STATE).and_then(|number| number.parse().ok()) else {
-        return Err(io::Error::other(match line.strip_prefix("error: ") {
-            Some(reason) => reason.to_string(),
-            None => format!("it says {line:?}"),
+        return Err(io::Error::other(match (line.as_str(), line.strip_prefix("error: ")) {
+            (_, Some(reason)) => reason.to_string(),
+            ("", _) => "it has gone, and another process may serve by now".into(),
+            _ => format!("it says {line:?}"),
         }));
     };
     let mut bytes = vec![0; MOST_BYTES.min(number)];

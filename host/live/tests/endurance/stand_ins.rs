@@ -158,7 +158,7 @@ pub fn two_at_once(rig: &mut Rig) {
     let (next, ended) = if one.has_ended() { (other, one) } else { (one, other) };
     let (code, out, log) = ended.wait();
     assert_eq!((code, out.as_str()), (Some(1), ""), "{log}");
-    assert!(log.contains("nothing was taken over: the director at "), "{log}");
+    assert!(log.ends_with(": it has gone, and another process may serve by now\n"), "{log}");
     let (code, _, log) = std::mem::replace(&mut rig.daemon, next).wait();
     assert_eq!(code, Some(0), "{log}");
     rig.must_receive(expected);

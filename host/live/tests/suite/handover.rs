@@ -257,9 +257,20 @@ fn files_and_a_director_are_missing() {
     let socket = place.folder.file("sock");
     let nothing = format!("the director at {} hands nothing over: ", socket.display());
     assert_eq!(taker.join().unwrap(), Err(format!("{nothing}0 files came with it")));
-    let taker = place.taker(|taken| taken.map(|_| ()));
-    drop(place.asked());
-    assert_eq!(taker.join().unwrap(), Err(format!("{nothing}it says \"\"")));
+    let gone = format!("{nothing}it has gone, and another process may serve by now");
+    let leave: [fn(&Place); 2] = [
+        |place| drop(place.asked()),
+        // the request is still to be read
+        |place| {
+            let (stream, _) = place.listener.accept().unwrap();
+            (&stream).read_exact(&mut [0]).unwrap();
+        },
+    ];
+    for leave in leave {
+        let taker = place.taker(|taken| taken.map(|_| ()));
+        leave(&place);
+        assert_eq!(taker.join().unwrap(), Err(gone.clone()));
+    }
     drop(place);
     let complaint = take(&socket, request()).unwrap_err();
     assert!(complaint.starts_with("no director serves at "), "{complaint}");
