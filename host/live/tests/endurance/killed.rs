@@ -5,8 +5,9 @@ use crate::link::Link;
 use crate::model::{CONFIG, SLOTS, VIRTUAL};
 use crate::place::{command, control};
 use crate::rig::Rig;
-use crate::stand_ins::{await_clients, request, stop, take_all, wait_until};
+use crate::stand_ins::{await_clients, await_state, request, stop, take_all, wait_until};
 use live::handover::take::{take, Taken};
+use live::handover::PATIENCE;
 use reference::packets::{tcp, ACK};
 use std::fs::File;
 use std::io::Read;
@@ -95,18 +96,33 @@ fn must_reach(link: &Link, device: &mut File) {
     assert_eq!(bytes[..length], packet);
 }
 
-/// The old one is stopped while it waits for the answer, and goes on later, as under a debugger: since the other one says
-/// meanwhile that it serves, it must not serve on.
+/// The old one is stopped while it waits for the answer, and goes on later, as under a debugger or in a machine that is
+/// suspended: since the other one was told nothing else, that one serves, and the old one doesn't serve on.
 pub fn stopped_while_it_waits() {
-    let rig = Rig::start("stopped");
-    let Taken { device, giver, .. } = take_all(&rig);
-    stop(&rig.daemon);
-    assert_eq!(giver.serve(), Ok(()));
-    let Rig { daemon, link, place, .. } = rig;
-    daemon.signal("CONT");
-    let (code, _, log) = daemon.wait();
-    assert_eq!(code, Some(0), "{log}");
-    assert!(log.contains("<5>nidhaagufd: handed 0 connections over to process "), "{log}");
-    must_reach(&link, &mut File::from(device));
-    assert!(Path::new(&place.file("sock")).exists());
+    let deeds: [fn(&Daemon); 3] = [
+        |daemon| stop(daemon),
+        |daemon| {
+            stop(daemon);
+            // when it goes on, the time to wait is over
+            thread::sleep(PATIENCE + Duration::from_millis(500));
+        },
+        |daemon| {
+            stop(daemon);
+            daemon.signal("CONT");
+            await_state(daemon, 'S');
+        },
+    ];
+    for deed in deeds {
+        let rig = Rig::start("stopped");
+        let Taken { device, giver, .. } = take_all(&rig);
+        deed(&rig.daemon);
+        assert_eq!(giver.serve(), Ok(()));
+        let Rig { daemon, link, place, .. } = rig;
+        daemon.signal("CONT");
+        let (code, _, log) = daemon.wait();
+        assert_eq!(code, Some(0), "{log}");
+        assert!(log.contains("<5>nidhaagufd: handed 0 connections over to process "), "{log}");
+        must_reach(&link, &mut File::from(device));
+        assert!(Path::new(&place.file("sock")).exists());
+    }
 }

@@ -51,8 +51,13 @@ pub fn await_clients(rig: &Rig, clients: usize) {
 /// Stops a daemon, surely.
 pub fn stop(daemon: &Daemon) {
     daemon.signal("STOP");
-    let stat = format!("/proc/{}/stat", daemon.process());
-    wait_until("the daemon stops", || fs::read_to_string(&stat).unwrap().contains(") T "));
+    await_state(daemon, 'T');
+}
+
+/// Waits until a daemon is in a state, by the letter that Linux has for it: stopped, sleeping.
+pub fn await_state(daemon: &Daemon, letter: char) {
+    let stat = || fs::read_to_string(format!("/proc/{}/stat", daemon.process())).unwrap();
+    wait_until("the daemon's state", || stat().contains(&format!(") {letter} ")));
 }
 
 /// One that has gone after it asked, after the first byte, after half of the state, and after all of it.
