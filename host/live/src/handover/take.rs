@@ -93,7 +93,7 @@ impl Giver {
             return Ok(());
         }
         // it takes no more words: was it killed, nobody serves but this process
-        match self.word.read(&mut [0]) {
+        match self.word.read_to_end(&mut Vec::new()) {
             Ok(0) => Ok(()),
             _ => Err("the other process waited no longer, and serves on".into()),
         }
