@@ -17,6 +17,7 @@ use crate::system;
 use crate::tun::Tun;
 use nidhaaguf::Director;
 use std::os::fd::OwnedFd;
+use std::path::Path;
 use std::time::Instant;
 
 /// A director, and what is open for it.
@@ -89,7 +90,23 @@ pub fn take_over(config: &Config, speed: u32, log: &mut Log) -> Result<Started, 
     // from here on it is this process that serves, and nothing may fail
     let control = Control::new(Socket::adopt(listener, &config.socket.value), Instant::now());
     let (instance, words) = go_on("took over", resumed, config, log);
+    put_older_aside(&config.state.value, log);
     Ok(Started { instance, packets, control, words: Some(words) })
+}
+
+/// A state file that is there at a take-over is of before it, and no later start may use it.
+fn put_older_aside(path: &Path, log: &mut Log) {
+    if !path.exists() {
+        return;
+    }
+    let line = match file::put_aside(path) {
+        Ok(aside) => {
+            let older = format!("the state file {} is older than this director", path.display());
+            format!("{older}: it is now {}", aside.display())
+        }
+        Err(complaint) => complaint,
+    };
+    log.warning(&line);
 }
 
 /// All that may fail, before the other process is told that this one serves.

@@ -182,6 +182,7 @@ fn restarts_with_a_state_file() {
         restarts::with_take_overs(&mut rig);
         restarts::killed(&mut rig);
         state_files::bad_files(&mut rig);
+        state_files::older_than_a_take_over(&mut rig);
         state_files::of_another_boot(&mut rig);
         rig.daemon.end_by("TERM");
     });

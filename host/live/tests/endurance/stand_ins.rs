@@ -120,11 +120,9 @@ pub fn late(rig: &mut Rig) {
     rig.send(&openings);
     let (taken, mut client) = take_before_a_client(rig);
     let expected = rig.send_ahead(&rig.model.packets_of_all(ACK));
-    let asked = Instant::now();
     let (code, out, log) = output(control().args(["--socket", &rig.daemon.socket, "status"]));
     assert_eq!(code, Some(0), "{log}");
     assert!(out.contains(", 5 of 64 slots used, "), "{out}");
-    assert!(asked.elapsed() > live::handover::PATIENCE / 2, "nobody had to wait");
     rig.daemon.await_log(": the other process has not answered within 5 s; serving on\n");
     let mut answer = String::new();
     client.read_to_string(&mut answer).unwrap();
@@ -154,8 +152,10 @@ pub fn two_at_once(rig: &mut Rig) {
     let openings = rig.openings(5);
     rig.send(&openings);
     stop(&rig.daemon);
-    let start = || command(&rig.place, CONFIG, "nid0", &["--take-over"]).spawn().unwrap();
-    let [mut one, mut other] = [start(), start()].map(|child| Daemon::of_child(child, &rig.place));
+    // both first: the second one's configuration is written before the first one reads it
+    let commands = [(), ()].map(|()| command(&rig.place, CONFIG, "nid0", &["--take-over"]));
+    let [mut one, mut other] =
+        commands.map(|mut command| Daemon::of_child(command.spawn().unwrap(), &rig.place));
     await_clients(rig, 2);
     let expected = rig.send_ahead(&rig.model.packets_of_all(ACK));
     rig.daemon.signal("CONT");

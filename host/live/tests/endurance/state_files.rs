@@ -117,6 +117,27 @@ fn must_be_put_aside(daemon: &mut Daemon, bytes: &[u8], reason: &str) {
     assert!(!Path::new(&path).exists());
 }
 
+/// A file that lies there when a director is taken over is older than that: it is put aside, so that no later start uses it.
+pub fn older_than_a_take_over(rig: &mut Rig) {
+    let good = good_file(rig);
+    let path = rig.place.file("sock.state");
+    rig.start_again();
+    fs::write(&path, &good).unwrap();
+    rig.take_over();
+    let words = format!(
+        "<4>nidhaagufd: the state file {path} is older than this director: it is now {path}.bad\n"
+    );
+    rig.daemon.await_log(&words);
+    assert_eq!(fs::read(format!("{path}.bad")).unwrap(), good);
+    rig.daemon.signal("KILL");
+    assert_eq!(rig.daemon.outcome().0, None);
+    rig.start_again();
+    assert_eq!(rig.daemon.words, "");
+    rig.model = Model::new();
+    rig.check();
+    rig.must_serve();
+}
+
 /// A state of before the machine was started anew: connections and counts are forgotten, the weights that were set are kept.
 pub fn of_another_boot(rig: &mut Rig) {
     let good = good_file(rig);

@@ -208,8 +208,9 @@ fn the_pipe_decides_where_nobody_listens() {
             stream.shutdown(Shutdown::Read).unwrap();
             serves_on.write_all(b"!").unwrap();
         } else {
-            drop((stream, serves_on));
+            drop(stream);
         }
+        drop(serves_on);
         assert_eq!(giver.serve(), expected);
     }
 }
