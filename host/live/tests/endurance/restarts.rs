@@ -64,13 +64,7 @@ pub fn killed(rig: &mut Rig) {
     open_more(rig);
     rig.set_weight(0, 9);
     rig.restart("TERM");
-    rig.daemon.signal("KILL");
-    assert_eq!(rig.daemon.outcome().0, None);
-    rig.start_again();
-    assert_eq!(rig.daemon.words, "");
-    rig.model = Model::new();
-    rig.check();
-    rig.must_serve();
+    rig.must_begin_empty_when_killed();
 }
 
 /// A daemon whose device was deleted has saved its state too.

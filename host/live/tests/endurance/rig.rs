@@ -167,6 +167,17 @@ impl Rig {
         self.link = Link::open("nid0");
     }
 
+    /// The daemon is killed; the next one must begin empty, with the configuration's weights.
+    pub fn must_begin_empty_when_killed(&mut self) {
+        self.daemon.signal("KILL");
+        assert_eq!(self.daemon.outcome().0, None);
+        self.start_again();
+        assert_eq!(self.daemon.words, "");
+        self.model = Model::new();
+        self.check();
+        self.must_serve();
+    }
+
     /// A client's port that wasn't used yet.
     pub fn new_port(&mut self) -> u16 {
         self.next_port += 1;

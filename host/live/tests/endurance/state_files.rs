@@ -129,13 +129,7 @@ pub fn older_than_a_take_over(rig: &mut Rig) {
     );
     rig.daemon.await_log(&words);
     assert_eq!(fs::read(format!("{path}.bad")).unwrap(), good);
-    rig.daemon.signal("KILL");
-    assert_eq!(rig.daemon.outcome().0, None);
-    rig.start_again();
-    assert_eq!(rig.daemon.words, "");
-    rig.model = Model::new();
-    rig.check();
-    rig.must_serve();
+    rig.must_begin_empty_when_killed();
 }
 
 /// A state of before the machine was started anew: connections and counts are forgotten, the weights that were set are kept.
