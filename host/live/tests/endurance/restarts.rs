@@ -3,7 +3,7 @@
 use crate::daemon::{output, Daemon};
 use crate::endings::await_metric;
 use crate::link::{self, Link};
-use crate::model::{Model, CONFIG, VIRTUAL};
+use crate::model::{CONFIG, VIRTUAL};
 use crate::place::{command, Place};
 use crate::rig::{Rig, User};
 use reference::packets::{tcp, ACK, SYN};
