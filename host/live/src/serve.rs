@@ -123,20 +123,24 @@ impl Around<'_> {
 
     /// Hands the director over; tells whether the other process serves it now.
     fn hand_over(&mut self, instance: &Instance, taker: UnixStream) -> bool {
+        let begin = Instant::now();
         let process = system::peer(&taker).map_or(0, |peer| peer.process);
         let snapshot = Snapshot::of(instance, self.log);
         let (device, listener) = (self.packets.device(), self.control.as_fd());
         let handed = give::give(taker, &snapshot, device, listener);
+        // so long no packet was served
+        let time = format!("after {:.1} ms", 1e3 * begin.elapsed().as_secs_f64());
         let connections = instance.director().used();
         match &handed {
             Ok(()) => {
-                self.log
-                    .notice(&format!("handed {connections} connections over to process {process}"));
+                let words = format!("handed {connections} connections over to process {process}");
+                self.log.notice(&format!("{words} {time}"));
                 self.control.leave();
             }
-            Err(reason) => self
-                .log
-                .error(&format!("not handed over to process {process}: {reason}; serving on")),
+            Err(reason) => {
+                let words = format!("not handed over to process {process}: {reason}");
+                self.log.error(&format!("{words}; serving on {time}"));
+            }
         }
         handed.is_ok()
     }

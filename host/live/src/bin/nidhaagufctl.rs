@@ -11,6 +11,9 @@ use std::time::Duration;
 /// Longer than the director gives a client that keeps others waiting.
 const PATIENCE: Duration = Duration::from_secs(15);
 
+/// So often in a row an answer may be missing; a director that has ended is told at once, since nobody can connect to it.
+const MOST_MISSING: u32 = 5;
+
 /// What went wrong.
 enum Failure {
     /// The director refused: exit 1.
@@ -72,7 +75,7 @@ enum Answer {
 /// asked again there.
 fn ask(path: &Path, line: &str, watch: bool) -> Result<(), Failure> {
     let mut missing = 0;
-    while missing < 2 {
+    while missing < MOST_MISSING {
         match ask_once(path, line, watch)? {
             Answer::Whole => return Ok(()),
             Answer::Watched => {
