@@ -145,7 +145,8 @@ impl Rig {
         let (code, out, log) = old.wait();
         let handed = format!("handed {used} connections over to process {}", self.daemon.process());
         assert_eq!((code, out.as_str()), (Some(0), ""), "{log}");
-        assert!(log.ends_with(&format!("<5>nidhaagufd: {handed}\n")), "{log}");
+        let last = log.lines().last().unwrap_or_default();
+        assert!(last.starts_with(&format!("<5>nidhaagufd: {handed} after ")), "{log}");
         self.check();
         log
     }
