@@ -129,6 +129,7 @@ fn takeovers_by_processes() {
         takeovers::ten_in_a_row(&mut rig);
         takeovers::changed_weights(&mut rig);
         takeovers::other_configurations(&mut rig);
+        takeovers::other_flags(&mut rig);
         takeovers::other_users(&mut rig);
         takeovers::other_layouts(&mut rig);
         rig.take_over();

@@ -144,24 +144,53 @@ pub fn changed_weights(rig: &mut Rig) {
 pub fn other_configurations(rig: &mut Rig) {
     let openings = rig.openings(3);
     rig.send(&openings);
-    let last = "server 10.2.0.5:6432 weight 1\n";
     let path = rig.place.file("nidhaaguf.conf");
-    let two = "its server 1 is 10.2.0.5:6432, and ";
-    for (config, flags, words) in [
-        (CONFIG.replace("5432 tcp", "5433 tcp"), &[][..], "the service 192.0.2.10:5433 tcp is asked for, and 192.0.2.10:5432 tcp is served here".into()),
-        (CONFIG.replace("5432 tcp", "5432 udp"), &[], "the service 192.0.2.10:5432 udp is asked for, and 192.0.2.10:5432 tcp is served here".into()),
-        (CONFIG.replace("10.2.0.5", "10.3.0.5"), &[], format!("{two}{path} line 5 says 10.3.0.5:6432")),
-        (CONFIG.replace(last, ""), &[], format!("{two}{path} says none")),
-        (format!("{CONFIG}server 10.3.0.5:1 weight 1\n"), &[], format!("its server 2 is none, and {path} line 6 says 10.3.0.5:1")),
-        (CONFIG.into(), &["--slots", "65"], "its number of slots is 64, and --slots says 65".into()),
-        (CONFIG.into(), &["--scheduler", "1"], "its scheduler is weighted-round-robin, and --scheduler says round-robin".into()),
-        (CONFIG.into(), &["--clock-speed", "2"], "its clock runs 1 times as fast as time, and not 2 times".into()),
-        (format!("{CONFIG}state /nowhere/state\n"), &[], "the state file /nowhere/state could not be saved: No such file or directory (os error 2)".into()),
+    let second = "its server 1 is 10.2.0.5:6432, and ";
+    let state = "the state file /nowhere/state could not be saved: No such file or directory";
+    for (config, words) in [
+        (CONFIG.replace("5432 tcp", "5433 tcp"), other_service("192.0.2.10:5433 tcp")),
+        (CONFIG.replace("5432 tcp", "5432 udp"), other_service("192.0.2.10:5432 udp")),
+        (
+            CONFIG.replace("10.2.0.5", "10.3.0.5"),
+            format!("{second}{path} line 5 says 10.3.0.5:6432"),
+        ),
+        (
+            CONFIG.replace("server 10.2.0.5:6432 weight 1\n", ""),
+            format!("{second}{path} says none"),
+        ),
+        (
+            format!("{CONFIG}server 10.3.0.5:1 weight 1\n"),
+            format!("its server 2 is none, and {path} line 6 says 10.3.0.5:1"),
+        ),
+        (format!("{CONFIG}state /nowhere/state\n"), format!("{state} (os error 2)")),
     ] {
-        must_be_refused(rig, command(&rig.place, &config, "nid0", &[&["--take-over"], flags].concat()), &words);
+        must_be_refused(rig, command(&rig.place, &config, "nid0", &["--take-over"]), &words);
     }
-    let device = "its device is nid0, and --device says nid1";
-    must_be_refused(rig, command(&rig.place, CONFIG, "nid1", &["--take-over"]), device);
+    rig.end_all();
+}
+
+fn other_service(asked: &str) -> String {
+    format!("the service {asked} is asked for, and 192.0.2.10:5432 tcp is served here")
+}
+
+/// Other flags than the old process had.
+pub fn other_flags(rig: &mut Rig) {
+    let openings = rig.openings(3);
+    rig.send(&openings);
+    let scheduler = "its scheduler is weighted-round-robin, and --scheduler says round-robin";
+    for (device, flags, words) in [
+        ("nid0", &["--slots", "65"][..], "its number of slots is 64, and --slots says 65"),
+        ("nid0", &["--scheduler", "1"], scheduler),
+        (
+            "nid0",
+            &["--clock-speed", "2"],
+            "its clock runs 1 times as fast as time, and not 2 times",
+        ),
+        ("nid1", &[], "its device is nid0, and --device says nid1"),
+    ] {
+        let flags = [&["--take-over"], flags].concat();
+        must_be_refused(rig, command(&rig.place, CONFIG, device, &flags), words);
+    }
     rig.end_all();
 }
 

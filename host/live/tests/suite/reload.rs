@@ -149,7 +149,10 @@ fn a_bad_file_changes_nothing() {
             " line 5: two servers have the same address and port (4)",
         ),
         (better.replace("least-", ""), " line 3: expected a scheduler: "),
-        (better.replace("least-connection", "1"), " line 3: another scheduler (round-robin instead of least-connection) needs a restart, "),
+        (
+            better.replace("least-connection", "1"),
+            " line 3: another scheduler (round-robin instead of ",
+        ),
         (String::new(), ": no server is given: "),
     ] {
         let complaint = reloaded.apply(&text).unwrap_err();
