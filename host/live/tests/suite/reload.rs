@@ -29,58 +29,43 @@ fn changed_weights_by_number() {
 }
 
 #[test]
-fn what_needs_a_restart_is_told_with_its_line() {
-    let forgets = "needs a restart, which forgets all connections";
+fn what_needs_a_new_setup_is_told_with_its_line() {
     let without = |line: &str| CONFIG.replace(line, "");
-    for (text, place, part, running, value) in [
-        (
-            CONFIG.replace(":5432 ", ":5433 "),
-            " line 2",
-            "service",
-            "192.0.2.10:5432 tcp",
-            "192.0.2.10:5433 tcp",
-        ),
-        (
-            CONFIG.replace("tcp", "udp"),
-            " line 2",
-            "service",
-            "192.0.2.10:5432 tcp",
-            "192.0.2.10:5432 udp",
-        ),
+    let (tcp, second) = ("192.0.2.10:5432 tcp", "10.2.0.5:6432");
+    for (text, place, part, now_and_then) in [
+        (CONFIG.replace(":5432 ", ":5433 "), " line 2", "service", [tcp, "192.0.2.10:5433 tcp"]),
+        (CONFIG.replace("tcp", "udp"), " line 2", "service", [tcp, "192.0.2.10:5432 udp"]),
         (
             CONFIG.replace("least-", "weighted-least-"),
             " line 3",
             "scheduler",
-            "least-connection",
-            "weighted-least-connection",
+            ["least-connection", "weighted-least-connection"],
         ),
-        (format!("{CONFIG}slots 9\n"), " line 7", "number of slots", "4096", "9"),
+        (format!("{CONFIG}slots 9\n"), " line 7", "number of slots", ["4096", "9"]),
         (
-            format!("{CONFIG}server 10.4.0.5:1 weight 1"),
+            format!("{CONFIG}server 1.0.0.4:1 weight 1"),
             " line 7",
             "server 3",
-            "none",
-            "10.4.0.5:1",
+            ["none", "1.0.0.4:1"],
         ),
-        (
-            CONFIG.replace("10.2.0.5", "10.2.0.6"),
-            " line 5",
-            "server 1",
-            "10.2.0.5:6432",
-            "10.2.0.6:6432",
-        ),
+        (CONFIG.replace("10.2.0.5", "9.2.0.5"), " line 5", "server 1", [second, "9.2.0.5:6432"]),
         (
             without("server 10.2.0.5:6432 weight 1\n"),
             " line 5",
             "server 1",
-            "10.2.0.5:6432",
-            "10.30.0.5:6432",
+            [second, "10.30.0.5:6432"],
         ),
-        (without("server 10.30.0.5:6432 weight 20\n"), "", "server 2", "10.30.0.5:6432", "none"),
+        (without("server 10.30.0.5:6432 weight 20\n"), "", "server 2", ["10.30.0.5:6432", "none"]),
     ] {
+        let [running, value] = now_and_then;
         let other = format!("another {part} ({value} instead of {running})");
-        assert_eq!(changed(&text), Err(format!("test.conf{place}: {other} {forgets}")));
+        let words = format!("{other} needs a restart, which forgets all connections");
+        assert_eq!(changed(&text), Err(format!("test.conf{place}: {words}")));
     }
+}
+
+#[test]
+fn what_needs_a_restart_is_told_with_its_line() {
     for (text, words) in
         [("device d1", "device"), ("socket /x", "control socket"), ("state /x", "state file")]
     {
