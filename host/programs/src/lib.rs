@@ -21,6 +21,8 @@ pub const SS: Program = Program::named("ss");
 pub const SYSCTL: Program = Program::named("sysctl");
 /// Another user's rights for a program.
 pub const SETPRIV: Program = Program::named("setpriv");
+/// A terminal for a program.
+pub const SCRIPT: Program = Program::named("script");
 /// Signals.
 pub const KILL: Program = Program::named("kill");
 /// Copies of files and directories.

@@ -2,6 +2,7 @@
 
 use crate::support::CONFIG;
 use live::log::line;
+use programs::SCRIPT;
 use std::fs;
 use std::path::PathBuf;
 use std::process::{Command, Output};
@@ -105,4 +106,14 @@ fn wrong_usage_of_the_command() {
         assert_eq!((code, out.as_str()), (2, ""), "{words:?}");
         assert!(log.starts_with(&format!("nidhaagufctl: {complaint}")), "{words:?}: {log}");
     }
+}
+
+/// On a terminal, which `script` makes, no level stands before a line.
+#[test]
+fn people_read_no_levels() {
+    let words = format!("{} --chek", env!("CARGO_BIN_EXE_nidhaagufd"));
+    let output = SCRIPT.run(&["-qec", &words, "/dev/null"]);
+    assert_eq!(output.status.code(), Some(2));
+    let line = "nidhaagufd: --chek: there is no such flag, see --help\r\n";
+    assert_eq!(String::from_utf8_lossy(&output.stdout), line);
 }
