@@ -6,6 +6,7 @@ use live::config::{setup, words, Config};
 use live::handover::file;
 use live::handover::snapshot::Snapshot;
 use live::instance::Instance;
+use live::log::output::Output;
 use live::log::Log;
 use live::serve::{Around, End};
 use live::start::{self, Started};
@@ -65,9 +66,11 @@ fn run(flags: Flags, log: &mut Log) -> Result<(), Failure> {
         false => start::start(&config, director, speed, log),
     };
     let Started { instance, packets, control, words } = started.map_err(Failure::Failed)?;
+    // without waiting: from now on it is this process that serves
+    let mut output = Output::standard_output();
     for line in words.into_iter().chain([ready_line(&config)]) {
-        if let Err(Failure::Failed(complaint)) = say(&line) {
-            log.warning(&format!("the line {line:?} is lost: {complaint}"));
+        if !output.put(&format!("{line}\n")) {
+            log.warning(&format!("standard output has not taken the line {line:?}"));
         }
     }
     let reload = Reload::new(flags, config.clone());

@@ -18,35 +18,48 @@ pub struct Difference {
 
 /// The first difference, but for weights, which need no new setup.
 pub fn difference(config: &Config, settings: &Settings, slots: usize) -> Option<Difference> {
-    let differs = |part: &str, running: String, configured: String, place: &str| {
-        let configured = Given::new(configured, place);
-        let difference = Difference { part: part.to_string(), running, configured };
-        (difference.running != difference.configured.value).then_some(difference)
-    };
-    let service = |(at, protocol): (SocketAddrV4, Protocol)| {
+    let servers = 0..settings.servers.len().max(config.servers.len());
+    let parts = [service(config, settings), scheduler(config, settings), table(config, slots)];
+    let mut all = parts.into_iter().chain(servers.map(|number| server(config, settings, number)));
+    all.find(|part| part.running != part.configured.value)
+}
+
+fn service(config: &Config, settings: &Settings) -> Difference {
+    let named = |(at, protocol): (SocketAddrV4, Protocol)| {
         format!("{at} {}", words::protocol_name(protocol))
     };
-    let running = service((settings.service, settings.protocol));
-    let configured = service(config.service.value);
-    let by_service = || differs("service", running, configured, &config.service.place);
-    let by_scheduler = || {
-        let names = [settings.scheduler, config.scheduler.value].map(words::scheduler_name);
-        let [running, configured] = names.map(str::to_string);
-        differs("scheduler", running, configured, &config.scheduler.place)
-    };
-    let by_slots = || {
-        let [running, configured] = [slots, config.slots.value].map(|slots| slots.to_string());
-        differs("number of slots", running, configured, &config.slots.place)
-    };
-    let by_server = || {
-        let most = settings.servers.len().max(config.servers.len());
-        (0..most).find_map(|number| {
-            let running = settings.servers.get(number).map(|server| server.at);
-            let configured = config.servers.get(number).map(|server| server.value.at);
-            let named = |at: Option<SocketAddrV4>| at.map_or("none".into(), |at| at.to_string());
-            let place = config.servers.get(number).map_or(&config.name, |server| &server.place);
-            differs(&format!("server {number}"), named(running), named(configured), place)
-        })
-    };
-    by_service().or_else(by_scheduler).or_else(by_slots).or_else(by_server)
+    Difference {
+        part: "service".into(),
+        running: named((settings.service, settings.protocol)),
+        configured: Given::new(named(config.service.value), &config.service.place),
+    }
+}
+
+fn scheduler(config: &Config, settings: &Settings) -> Difference {
+    let name = words::scheduler_name(config.scheduler.value).to_string();
+    Difference {
+        part: "scheduler".into(),
+        running: words::scheduler_name(settings.scheduler).into(),
+        configured: Given::new(name, &config.scheduler.place),
+    }
+}
+
+fn table(config: &Config, slots: usize) -> Difference {
+    Difference {
+        part: "number of slots".into(),
+        running: slots.to_string(),
+        configured: Given::new(config.slots.value.to_string(), &config.slots.place),
+    }
+}
+
+/// Of a number that only one of them has, the other has none.
+fn server(config: &Config, settings: &Settings, number: usize) -> Difference {
+    let named = |at: Option<SocketAddrV4>| at.map_or("none".to_string(), |at| at.to_string());
+    let given = config.servers.get(number);
+    let place = given.map_or(&config.name, |server| &server.place);
+    Difference {
+        part: format!("server {number}"),
+        running: named(settings.servers.get(number).map(|server| server.at)),
+        configured: Given::new(named(given.map(|server| server.value.at)), place),
+    }
 }

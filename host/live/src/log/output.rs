@@ -1,9 +1,9 @@
-//! Where the log is written, without ever waiting.
+//! Where lines are written, without ever waiting.
 
 use crate::system::{self, Waited};
 use std::fs::{File, OpenOptions};
 use std::io::{self, IsTerminal, Write};
-use std::os::fd::AsFd;
+use std::os::fd::{AsFd, AsRawFd, BorrowedFd};
 use std::os::unix::fs::{FileTypeExt, OpenOptionsExt};
 use std::time::Duration;
 
@@ -24,9 +24,14 @@ impl Output {
         Output { file: Some(file), is_cut: false }
     }
 
+    /// Lines to standard output.
+    pub fn standard_output() -> Output {
+        Output { file: unwaiting(io::stdout().as_fd()).ok(), is_cut: false }
+    }
+
     /// Lines to standard error.
     pub fn standard_error() -> Output {
-        Output { file: standard_error().ok(), is_cut: false }
+        Output { file: unwaiting(io::stderr().as_fd()).ok(), is_cut: false }
     }
 
     /// Writes a line if it is taken at once; tells whether it was, and whole.
@@ -47,12 +52,12 @@ impl Output {
 
 /// A pipe or a terminal is opened anew where that is possible: then a write doesn't wait even where another program fills it
 /// after the look. That program is not concerned, as it would be by a change of the file that it shares.
-fn standard_error() -> io::Result<File> {
-    let shared = File::from(io::stderr().as_fd().try_clone_to_owned()?);
+fn unwaiting(file: BorrowedFd<'_>) -> io::Result<File> {
+    let shared = File::from(file.try_clone_to_owned()?);
     if !shared.is_terminal() && !shared.metadata()?.file_type().is_fifo() {
         return Ok(shared);
     }
     let mut anew = OpenOptions::new();
     anew.write(true).custom_flags(O_NONBLOCK | O_NOCTTY);
-    anew.open("/proc/self/fd/2").or(Ok(shared))
+    anew.open(format!("/proc/self/fd/{}", file.as_raw_fd())).or(Ok(shared))
 }

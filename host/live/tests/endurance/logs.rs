@@ -5,9 +5,13 @@ use crate::model::{CONFIG, SLOTS};
 use crate::place::{command, Place};
 use crate::rig::Rig;
 use std::fs::OpenOptions;
+use std::io::{self, Write};
 use std::os::unix::net::UnixStream;
 use std::process::Stdio;
 use std::time::{Duration, Instant};
+
+/// What a pipe has room for.
+const PIPE: usize = 65_536;
 
 /// The lines of a log with these words.
 fn lines_with<'a>(log: &'a str, words: &str) -> Vec<&'a str> {
@@ -65,25 +69,33 @@ pub fn handed_on() {
     rig.must_serve();
 }
 
-/// Standard output, standard error or both on a full disk: it serves, and ends as ever.
+/// Standard output, standard error or both on a full disk, or in a full pipe that nobody reads: it serves, and ends as ever.
 pub fn full_devices() {
-    for (full_output, full_log) in [(true, false), (false, true), (true, true)] {
-        let place = Place::new("full");
-        let full = || Stdio::from(OpenOptions::new().write(true).open("/dev/full").unwrap());
-        let piped = |is_full: bool| if is_full { full() } else { Stdio::piped() };
-        let mut command = command(&place, CONFIG, "nid0", &[]);
-        let started = command.stdout(piped(full_output)).stderr(piped(full_log)).spawn().unwrap();
-        let daemon = Daemon::of_child(started, &place);
-        await_socket(&daemon.socket);
-        assert!(daemon.ask("weight 9 9").starts_with("error: there is no server"));
-        assert_eq!(daemon.ask("count 0"), "ok\n0\n");
-        daemon.signal("TERM");
-        let (code, _, log) = daemon.wait();
-        assert_eq!(code, Some(0), "{log}");
-        let first = log.lines().next().unwrap_or_default();
-        let is_lost = first.starts_with("<4>nidhaagufd: the line \"ready: ");
-        assert_eq!(is_lost, full_output && !full_log, "{log}");
+    let full = || Stdio::from(OpenOptions::new().write(true).open("/dev/full").unwrap());
+    for output in [Stdio::piped(), full()] {
+        assert_eq!(log_with(output, full()), "");
     }
+    let (_reader, mut pipe) = io::pipe().unwrap();
+    pipe.write_all(&[b'x'; PIPE]).unwrap();
+    for output in [full(), pipe.into()] {
+        let log = log_with(output, Stdio::piped());
+        let lost = "<4>nidhaagufd: standard output has not taken the line \"ready: ";
+        assert!(log.starts_with(lost), "{log}");
+    }
+}
+
+/// The log of a daemon with such files, which must serve.
+fn log_with(output: Stdio, log: Stdio) -> String {
+    let place = Place::new("full");
+    let started = command(&place, CONFIG, "nid0", &[]).stdout(output).stderr(log).spawn();
+    let daemon = Daemon::of_child(started.unwrap(), &place);
+    await_socket(&daemon.socket);
+    assert!(daemon.ask("weight 9 9").starts_with("error: there is no server"));
+    assert_eq!(daemon.ask("count 0"), "ok\n0\n");
+    daemon.signal("TERM");
+    let (code, _, log) = daemon.wait();
+    assert_eq!(code, Some(0), "{log}");
+    log
 }
 
 fn await_socket(path: &str) {
