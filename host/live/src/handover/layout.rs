@@ -7,11 +7,14 @@ use super::snapshot::Snapshot;
 use crate::clock::Clock;
 use crate::counters::Counters;
 use crate::log::position::{Position, Told};
-use nidhaaguf::raw::{Server, Service, State, COUNTERS, PLACES};
+use nidhaaguf::raw::{Server, Service, State, COUNTERS, PLACES, WORDS_PER_SLOT};
 use std::time::Duration;
 
 /// The layout's number. A program takes no other than its own.
 pub const LAYOUT: u32 = 1;
+
+// another number here is another layout: it needs another number too
+const _: () = assert!(COUNTERS == 36 && PLACES == 64 && WORDS_PER_SLOT == 5 && LAYOUT == 1);
 
 /// More bytes than the largest director has.
 pub const MOST_BYTES: usize = 100_000;
