@@ -91,9 +91,15 @@ impl Daemon {
 
     /// Sends each of its threads a signal.
     pub fn signal_threads(&self, name: &str) {
-        for thread in fs::read_dir(format!("/proc/{}/task", self.process())).unwrap() {
-            send_signals(name, &[thread.unwrap().file_name().to_str().unwrap()]);
+        for thread in self.threads() {
+            send_signals(name, &[thread.file_name().unwrap().to_str().unwrap()]);
         }
+    }
+
+    /// The folders of its threads, which are called after their numbers.
+    pub fn threads(&self) -> Vec<PathBuf> {
+        let threads = fs::read_dir(format!("/proc/{}/task", self.process())).unwrap();
+        threads.map(|thread| thread.unwrap().path()).collect()
     }
 
     /// The processor's time that it has taken, with all its threads.

@@ -11,7 +11,7 @@ use reference::packets::ACK;
 use std::fs;
 use std::io::{BufRead, BufReader, Read, Write};
 use std::os::unix::net::UnixStream;
-use std::path::Path;
+use std::path::{Path, PathBuf};
 use std::thread;
 use std::time::{Duration, Instant};
 
@@ -54,10 +54,11 @@ pub fn stop(daemon: &Daemon) {
     await_state(daemon, 'T');
 }
 
-/// Waits until a daemon is in a state, by the letter that Linux has for it: stopped, sleeping.
+/// Waits until all threads of a daemon are in a state, by the letter that Linux has for it: stopped, sleeping.
 pub fn await_state(daemon: &Daemon, letter: char) {
-    let stat = || fs::read_to_string(format!("/proc/{}/stat", daemon.process())).unwrap();
-    wait_until("the daemon's state", || stat().contains(&format!(") {letter} ")));
+    let stat = |thread: &PathBuf| fs::read_to_string(thread.join("stat")).unwrap();
+    let is_in_state = |thread: &PathBuf| stat(thread).contains(&format!(") {letter} "));
+    wait_until("the daemon's state", || daemon.threads().iter().all(is_in_state));
 }
 
 /// One that has gone after it asked, after the first byte, after half of the state, and after all of it.
