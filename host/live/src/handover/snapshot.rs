@@ -60,7 +60,7 @@ impl Snapshot {
         let director = Director::resume(self.state, self.row)
             .map_err(|refusal| format!("the library refuses it: {refusal}"))?;
         same_setup(&director, config)?;
-        let Clock { speed: own, .. } = self.clock;
+        let own = self.clock.speed;
         if own != speed {
             return Err(format!(
                 "its clock runs {own} times as fast as time, and not {speed} times"

@@ -102,6 +102,19 @@ impl Daemon {
         threads.map(|thread| thread.unwrap().path()).collect()
     }
 
+    /// Stops it, surely.
+    pub fn stop(&self) {
+        self.signal("STOP");
+        self.await_state('T');
+    }
+
+    /// Waits until all its threads are in a state, by the letter that Linux has for it: stopped, sleeping.
+    pub fn await_state(&self, letter: char) {
+        let stat = |thread: &PathBuf| fs::read_to_string(thread.join("stat")).unwrap();
+        let is_in_state = |thread: &PathBuf| stat(thread).contains(&format!(") {letter} "));
+        wait_until("the daemon's state", || self.threads().iter().all(is_in_state));
+    }
+
     /// The processor's time that it has taken, with all its threads.
     pub fn processor_time(&self) -> Duration {
         let stat = fs::read_to_string(format!("/proc/{}/stat", self.child.id())).unwrap();
@@ -210,6 +223,15 @@ impl Drop for Daemon {
     fn drop(&mut self) {
         let _ = self.child.kill();
         let _ = self.child.wait();
+    }
+}
+
+/// Waits for a condition.
+pub fn wait_until(what: &str, mut is_so: impl FnMut() -> bool) {
+    let deadline = Instant::now() + PATIENCE;
+    while !is_so() {
+        assert!(Instant::now() < deadline, "{what}: it doesn't come to that");
+        std::thread::sleep(Duration::from_millis(1));
     }
 }
 

@@ -1,6 +1,6 @@
 //! Starts that can't be, and ends.
 
-use crate::daemon::{output, Daemon, PATIENCE};
+use crate::daemon::{output, wait_until, Daemon};
 use crate::link::{self, Link};
 use crate::model::{CONFIG, VIRTUAL};
 use crate::place::{command, Place};
@@ -112,9 +112,5 @@ pub fn idle_daemon() {
 
 /// Waits until the metrics have that line.
 pub fn await_metric(daemon: &Daemon, line: &str) {
-    let deadline = Instant::now() + PATIENCE;
-    while !daemon.text("metrics").lines().any(|found| found == line) {
-        assert!(Instant::now() < deadline, "{line} doesn't come");
-        std::thread::sleep(Duration::from_millis(1));
-    }
+    wait_until(line, || daemon.text("metrics").lines().any(|found| found == line));
 }

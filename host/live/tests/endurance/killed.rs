@@ -1,11 +1,11 @@
 //! Take-overs in which a process is killed or stopped.
 
-use crate::daemon::{output, Daemon};
+use crate::daemon::{output, wait_until, Daemon};
 use crate::link::Link;
 use crate::model::{CONFIG, SLOTS, VIRTUAL};
 use crate::place::{command, control};
 use crate::rig::Rig;
-use crate::stand_ins::{await_clients, await_state, request, stop, take_all, wait_until};
+use crate::stand_ins::{await_clients, request, take_all};
 use live::handover::take::{take, Taken};
 use live::handover::PATIENCE;
 use reference::packets::{tcp, ACK};
@@ -21,11 +21,11 @@ pub fn stopped_taker() {
     let mut rig = Rig::start("stopped-taker");
     let openings = rig.openings(5);
     rig.send(&openings);
-    stop(&rig.daemon);
+    rig.daemon.stop();
     let next = command(&rig.place, CONFIG, "nid0", &["--take-over"]).spawn().unwrap();
     let mut next = Daemon::of_child(next, &rig.place);
     await_clients(&rig, 1);
-    stop(&next);
+    next.stop();
     next.signal("CONT");
     rig.daemon.signal("CONT");
     next.await_ready();
@@ -64,7 +64,7 @@ pub fn takers() {
 /// The old one is killed before it has sent anything: there is nothing to take over.
 pub fn before_it_sends() {
     let rig = Rig::start("killed-early");
-    stop(&rig.daemon);
+    rig.daemon.stop();
     let socket = rig.daemon.socket.clone();
     let taker = thread::spawn(move || take(Path::new(&socket), request()).map(|_| ()));
     await_clients(&rig, 1);
@@ -100,16 +100,16 @@ fn must_reach(link: &Link, device: &mut File) {
 /// suspended: since the other one was told nothing else, that one serves, and the old one doesn't serve on.
 pub fn stopped_while_it_waits() {
     let deeds: [fn(&Daemon); 3] = [
-        |daemon| stop(daemon),
+        Daemon::stop,
         |daemon| {
-            stop(daemon);
+            daemon.stop();
             // when it goes on, the time to wait is over
             thread::sleep(PATIENCE + Duration::from_millis(500));
         },
         |daemon| {
-            stop(daemon);
+            daemon.stop();
             daemon.signal("CONT");
-            await_state(daemon, 'S');
+            daemon.await_state('S');
         },
     ];
     for deed in deeds {

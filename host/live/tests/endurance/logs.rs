@@ -1,6 +1,6 @@
 //! What the log tells, and a log that nobody takes.
 
-use crate::daemon::{ask, Daemon, PATIENCE};
+use crate::daemon::{ask, wait_until, Daemon};
 use crate::model::{CONFIG, SLOTS};
 use crate::place::{command, Place};
 use crate::rig::Rig;
@@ -8,7 +8,7 @@ use std::fs::OpenOptions;
 use std::io::{self, Write};
 use std::os::unix::net::UnixStream;
 use std::process::Stdio;
-use std::time::{Duration, Instant};
+use std::time::Duration;
 
 /// What a pipe has room for.
 const PIPE: usize = 65_536;
@@ -99,11 +99,7 @@ fn log_with(output: Stdio, log: Stdio) -> String {
 }
 
 fn await_socket(path: &str) {
-    let deadline = Instant::now() + PATIENCE;
-    while UnixStream::connect(path).is_err() {
-        assert!(Instant::now() < deadline, "{path} doesn't come");
-        std::thread::sleep(Duration::from_millis(1));
-    }
+    wait_until(path, || UnixStream::connect(path).is_ok());
 }
 
 /// Refused commands, each with a line, while nobody reads: each is answered, and the lines are written or counted as lost.

@@ -4,7 +4,6 @@ use crate::damage::damaged;
 use crate::link;
 use crate::model::{SERVERS, SLOTS, VIRTUAL};
 use crate::rig::Rig;
-use crate::stand_ins::stop;
 use random::Rng;
 use reference::packets::{tcp, udp, ACK, SYN};
 
@@ -84,7 +83,7 @@ pub fn every_weight_zero(rig: &mut Rig) {
 pub fn device_down_and_up(rig: &mut Rig) {
     let packets = 40;
     // stopped, so that the packets are surely read when the device is down
-    stop(&rig.daemon);
+    rig.daemon.stop();
     for _ in 0..packets {
         let syn = tcp((0x0A00_0001, rig.new_port()), VIRTUAL, SYN).build();
         rig.link.send(&syn);

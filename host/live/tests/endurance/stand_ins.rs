@@ -1,6 +1,6 @@
 //! Stand-ins for the next process, which do what a good one doesn't.
 
-use crate::daemon::{output, Daemon, PATIENCE};
+use crate::daemon::{output, wait_until, Daemon};
 use crate::model::CONFIG;
 use crate::place::{command, control};
 use crate::rig::Rig;
@@ -11,9 +11,8 @@ use reference::packets::ACK;
 use std::fs;
 use std::io::{BufRead, BufReader, Read, Write};
 use std::os::unix::net::UnixStream;
-use std::path::{Path, PathBuf};
+use std::path::Path;
 use std::thread;
-use std::time::{Duration, Instant};
 
 pub fn request() -> Request {
     Request::new(("192.0.2.10:5432".parse().unwrap(), Protocol::Tcp))
@@ -31,34 +30,12 @@ pub fn take_all(rig: &Rig) -> Taken {
     take(Path::new(&rig.daemon.socket), request()).unwrap()
 }
 
-/// Waits for a condition.
-pub fn wait_until(what: &str, mut is_so: impl FnMut() -> bool) {
-    let deadline = Instant::now() + PATIENCE;
-    while !is_so() {
-        assert!(Instant::now() < deadline, "{what}: it doesn't come to that");
-        thread::sleep(Duration::from_millis(1));
-    }
-}
-
 /// Waits until so many clients are connected at the daemon's socket, let in or not.
 pub fn await_clients(rig: &Rig, clients: usize) {
     // the listening socket has the name too
     let sockets = || fs::read_to_string("/proc/thread-self/net/unix").unwrap();
     let name = format!(" {}\n", rig.daemon.socket);
     wait_until("clients connect", || sockets().matches(&name).count() > clients);
-}
-
-/// Stops a daemon, surely.
-pub fn stop(daemon: &Daemon) {
-    daemon.signal("STOP");
-    await_state(daemon, 'T');
-}
-
-/// Waits until all threads of a daemon are in a state, by the letter that Linux has for it: stopped, sleeping.
-pub fn await_state(daemon: &Daemon, letter: char) {
-    let stat = |thread: &PathBuf| fs::read_to_string(thread.join("stat")).unwrap();
-    let is_in_state = |thread: &PathBuf| stat(thread).contains(&format!(") {letter} "));
-    wait_until("the daemon's state", || daemon.threads().iter().all(is_in_state));
 }
 
 /// One that has gone after it asked, after the first byte, after half of the state, and after all of it.
@@ -141,7 +118,7 @@ pub fn late(rig: &mut Rig) {
 
 /// One that has all, and a client that has asked for a count after it and is let in with it.
 fn take_before_a_client(rig: &Rig) -> (Taken, UnixStream) {
-    stop(&rig.daemon);
+    rig.daemon.stop();
     let socket = rig.daemon.socket.clone();
     let taker = thread::spawn(move || take(Path::new(&socket), request()).unwrap());
     await_clients(rig, 1);
@@ -155,7 +132,7 @@ fn take_before_a_client(rig: &Rig) -> (Taken, UnixStream) {
 pub fn two_at_once(rig: &mut Rig) {
     let openings = rig.openings(5);
     rig.send(&openings);
-    stop(&rig.daemon);
+    rig.daemon.stop();
     // both first: the second one's configuration is written before the first one reads it
     let commands = [(), ()].map(|()| command(&rig.place, CONFIG, "nid0", &["--take-over"]));
     let [mut one, mut other] =

@@ -1,13 +1,12 @@
 //! Take-overs by a real process: what goes on meanwhile, and those that are refused.
 
 use crate::counts::Counts;
-use crate::daemon::{output, Daemon, PATIENCE};
+use crate::daemon::{output, wait_until, Daemon, PATIENCE};
 use crate::floods::Stops;
 use crate::link::Link;
 use crate::model::{CONFIG, VIRTUAL};
 use crate::place::{as_nobody, command, control, Place};
 use crate::rig::Rig;
-use crate::stand_ins::wait_until;
 use reference::packets::{tcp, ACK, SYN};
 use std::fs;
 use std::io::{BufRead, BufReader};
