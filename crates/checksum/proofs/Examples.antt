@@ -1,4 +1,4 @@
--- The worked examples of RFC 1071 and RFC 1624, and the two edges of the edit's laws, by computation on the definitions.
+-- The worked examples of RFC 1071 and RFC 1624, the edges of the edit's laws, and edits in a row, by computation on the definitions.
 use mathlib.Core.Path.{_≡_, refl}
 use mathlib.Core.List.{[], _∷_}
 use mathlib.Core.Bool.{true, false}
@@ -27,3 +27,21 @@ rfc1141 = refl
 pub all-zero : (verifies (0xFFFE ∷ 0x0001 ∷ []) ≡ true) × (verifies (withWord (0xFFFE ∷ 0x0001 ∷ []) 0 1 0) ≡ false)
 unfolding edited
 all-zero = (refl, refl)
+
+-- one word edited twice, and at once: the same, but in the exception
+pub chained : (edited (edited 0xDD2F 0x5555 0x3285) 0x3285 0x0000 ≡ 0x3285) × (edited 0xDD2F 0x5555 0x0000 ≡ 0x3285)
+unfolding edited
+chained = (refl, refl)
+
+pub chained-exception : (edited (edited 0xFFFF 0xFFFF 0x1234) 0x1234 0x0000 ≡ 0x0000) × (edited 0xFFFF 0xFFFF 0x0000 ≡ 0xFFFF)
+unfolding edited
+chained-exception = (refl, refl)
+
+pub there-and-back : (edited (edited 0xDD2F 0x5555 0x3285) 0x3285 0x5555 ≡ 0xDD2F) × (edited (edited 0xFFFF 0x5555 0x3285) 0x3285 0x5555 ≡ 0x0000)
+unfolding edited
+there-and-back = (refl, refl)
+
+-- two words, 5555 to 3285 and CD7A to 1234, in both orders
+pub either-order : (edited (edited 0xDD2F 0x5555 0x3285) 0xCD7A 0x1234 ≡ 0xBB46) × (edited (edited 0xDD2F 0xCD7A 0x1234) 0x5555 0x3285 ≡ 0xBB46)
+unfolding edited
+either-order = (refl, refl)

@@ -4,3 +4,4 @@ pub mod Reduced
 pub mod Edits
 pub mod Laws
 pub mod Examples
+pub mod Editing

@@ -1,10 +1,12 @@
--- What RFC 1624's edit does to a checksum, as statements; proofs/Laws.antt proves them (`laws`). Assumes nothing: these are definitions.
+-- What RFC 1624's edit does to a checksum, as statements; proofs/Laws.antt proves them (`laws`), the last three proofs/Editing.antt (`editing`).
+-- Assumes nothing: these are definitions.
 use mathlib.Core.Path.{_≡_}
 use mathlib.Core.Logic.{_↔_, _≢_}
-use mathlib.Core.Bool.{true}
+use mathlib.Core.Bool.{true, cond}
 use mathlib.Core.List.{List}
 use Prim.Native.Nat.{ℕ, _<_}
 use lib.ListN.{length, getD, set}
+use lib.Dec.{eqb}
 use Rattle.checksum.specs.Ones.{Words, verifies, edited, fresh, editedAt, withWord}
 
 -- words with their checksum at place i
@@ -36,3 +38,14 @@ pub record Laws : Type 0 where
   pub valid-fresh : (ws : List ℕ) (i : ℕ) → Checked ws i → verifies ws ≡ true → getD ws i 0 ≢ 65535 → getD ws i 0 ≡ fresh (set ws i 0)
   -- where a valid checksum is FFFF and another word is not 0, a fresh calculation gives 0
   pub ones-fresh : (ws : List ℕ) (i : ℕ) → Checked ws i → (k : ℕ) → k ≢ i → 0 < getD ws k 0 → verifies ws ≡ true → getD ws i 0 ≡ 65535 → fresh (set ws i 0) ≡ 0
+
+-- edits of equation 3 in a row, before UDP's rule for 0 and FFFF
+pub record EditingLaws : Type 0 where
+  -- "changing a word from a to b and then to c gives what a to c gives, except where the checksum and a are FFFF and c is 0" (SCOPE 1.7)
+  pub chained : (hc a b c : ℕ) → hc < 65536 → a < 65536 → b < 65536 → c < 65536
+      → (edited (edited hc a b) b c ≡ edited hc a c) ↔ (Exception hc a c → ⊥)
+  -- "changing it there and back returns the checksum, except that FFFF returns as 0" (SCOPE 1.8)
+  pub there-and-back : (hc a b : ℕ) → hc < 65536 → a < 65536 → b < 65536 → edited (edited hc a b) b a ≡ cond (eqb hc 65535) 0 hc
+  -- "edits of two different words may come in either order" (SCOPE 1.9)
+  pub either-order : (hc a a′ b b′ : ℕ) → hc < 65536 → a < 65536 → a′ < 65536 → b < 65536 → b′ < 65536
+      → edited (edited hc a a′) b b′ ≡ edited (edited hc b b′) a a′

@@ -1,6 +1,8 @@
-// The examples that are not proved (SCOPE E1 to E4), the published vectors of RFC 1071 and 1624, and renewals, run.
+// The examples that are not proved (SCOPE E1 to E4), the published vectors of RFC 1071 and 1624, edits in a row, and renewals, run.
+mod editing;
 mod renewal;
 
+use crate::editing::edits_in_a_row;
 use crate::renewal::renewals;
 use checksum::edit;
 use checksum::ones_sum;
@@ -94,6 +96,7 @@ fn rows() {
 
 fn main() {
     checksums();
+    edits_in_a_row();
     one_slot();
     clocks();
     offsets();

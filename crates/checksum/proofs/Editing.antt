@@ -1,0 +1,77 @@
+-- The editing laws of specs/Laws.antt. Edits in a row keep checksum and words modulo 65535, and congruent words are equal unless just one of them is FFFF.
+use mathlib.Core.Path.{_≡_, refl, sym, _∙_}
+use mathlib.Core.Logic.{_↔_, _≢_, ⊎-elim}
+use mathlib.Core.Bool.{Bool, true, false, cond}
+use Prim.Native.Nat.{ℕ, _+_, _<_}
+use native.Mathlib.Omega.{arith}
+use lib.Dec.{eqb}
+use borrow.Author.Tests.{eqb-true, eqb-false}
+use Rattle.lists.proofs.Cases.{truth}
+use Rattle.checksum.specs.Ones.{edited}
+use Rattle.checksum.specs.Laws.{Exception, Laws, EditingLaws}
+use Rattle.checksum.proofs.Edits.{Congruent, edited-congruent, edited-fits}
+use Rattle.checksum.proofs.Laws.{laws}
+
+-- congruent words are equal where one is FFFF exactly if the other is
+same-word : (x y : ℕ) → x < 65536 → y < 65536 → (x ≡ 65535) ↔ (y ≡ 65535) → Congruent x y → x ≡ y
+same-word x y hx hy ones c = by-cases (eqb x 65535) refl
+  where
+    by-cases : (t : Bool) → eqb x 65535 ≡ t → x ≡ y
+    by-cases true e = let q = eqb-true x 65535 e in q ∙ sym (ones .0 q)
+    by-cases false e =
+        let not-x = eqb-false x 65535 e in
+        let not-y : y ≢ 65535 = λ q. not-x (ones .1 q) in
+        omega arith
+
+-- two edits, of one word or of two
+module _ (hc a a′ b b′ : ℕ) (h : hc < 65536) (ha : a < 65536) (ha′ : a′ < 65536) (hb : b < 65536) (hb′ : b′ < 65536) where
+  two-congruent : Congruent (edited (edited hc a a′) b b′ + a′ + b′) (hc + a + b)
+  two-congruent =
+      let first = edited-congruent hc a a′ h ha ha′ in
+      let second = edited-congruent (edited hc a a′) b b′ (edited-fits hc a a′) hb hb′ in
+      record { x = first .x + second .x; y = first .y + second .y; balanced = omega arith }
+
+  -- they give FFFF exactly where each by itself would
+  two-ones : (edited (edited hc a a′) b b′ ≡ 65535) ↔ (Exception hc a a′ × Exception hc b b′)
+  two-ones =
+      let first = laws .ones-exactly hc a a′ h ha in
+      let second = laws .ones-exactly (edited hc a a′) b b′ (edited-fits hc a a′) hb in (
+        (λ e. let w = second .0 e in
+            let v = first .0 (w .0) in
+            (v, (v .0, w .1, w .2))),
+        (λ w. second .1 (first .1 (w .0), w .1 .1, w .1 .2)),
+      )
+
+module _ (hc a b c : ℕ) (h : hc < 65536) (ha : a < 65536) (hb : b < 65536) (hc′ : c < 65536) where
+  -- a second edit of a word never gives FFFF: the first would make it 0, and the second find it FFFF
+  never-ones : edited (edited hc a b) b c ≢ 65535
+  never-ones e = let w = two-ones hc a b b c h ha hb hb hc′ .0 e in omega (arith, w .0 .2, w .1 .1)
+
+  chained : (Exception hc a c → ⊥) → edited (edited hc a b) b c ≡ edited hc a c
+  chained n =
+      let two = two-congruent hc a b b c h ha hb hb hc′ in
+      let one = edited-congruent hc a c h ha hc′ in
+      same-word _ _ (edited-fits (edited hc a b) b c) (edited-fits hc a c)
+      ((λ e. absurd (never-ones e)), (λ e. absurd (n (laws .ones-exactly hc a c h ha .0 e))))
+      (record { x = two .x + one .y; y = two .y + one .x; balanced = omega arith })
+
+pub editing : EditingLaws
+editing = record {
+  chained = λ (hc a b c : ℕ) h ha hb hc′. ((λ e w. never-ones hc a b c h ha hb hc′ (e ∙ laws .ones-exactly hc a c h ha .1 w)), chained hc a b c h ha hb hc′);
+  there-and-back = λ (hc a b : ℕ) h ha hb.
+      let fits = edited-fits (edited hc a b) b a in
+      let never = never-ones hc a b a h ha hb ha in
+      let two = two-congruent hc a b b a h ha hb hb ha in
+      ⊎-elim
+      (λ (e : eqb hc 65535 ≡ true). let zero : cond (eqb hc 65535) 0 hc ≡ 0 = rw e in omega (arith, eqb-true hc 65535 e))
+      (λ (e : eqb hc 65535 ≡ false). let same : cond (eqb hc 65535) 0 hc ≡ hc = rw e in omega (arith, eqb-false hc 65535 e))
+      (truth (eqb hc 65535));
+  either-order = λ (hc a a′ b b′ : ℕ) h ha ha′ hb hb′.
+      let first = two-congruent hc a a′ b b′ h ha ha′ hb hb′ in
+      let second = two-congruent hc b b′ a a′ h hb hb′ ha ha′ in
+      let ones = two-ones hc a a′ b b′ h ha ha′ hb hb′ in
+      let ones′ = two-ones hc b b′ a a′ h hb hb′ ha ha′ in
+      same-word _ _ (edited-fits (edited hc a a′) b b′) (edited-fits (edited hc b b′) a a′)
+      ((λ e. let w = ones .0 e in ones′ .1 (w .1, w .0)), (λ e. let w = ones′ .0 e in ones .1 (w .1, w .0)))
+      (record { x = first .x + second .y; y = first .y + second .x; balanced = omega arith });
+}
