@@ -2,6 +2,7 @@
 //! A fault is told as `file:line: what is wrong`.
 
 mod citations;
+mod editing;
 mod links;
 mod names;
 mod quotations;
