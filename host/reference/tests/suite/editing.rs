@@ -74,20 +74,21 @@ fn there_and_back_returns_the_checksum_and_ffff_as_0() {
     assert!(exceptions > 100_000, "{exceptions}");
 }
 
-/// Law 3; whether FFFF comes out.
+/// Law 3; whether FFFF comes out: of FFFF only, where both words go from FFFF to 0.
 fn two_words(case: Case<4>) -> bool {
     let (checksum, [a, b, c, d]) = case;
     let edited = edit_word(edit_word(checksum, a, b), c, d);
     assert_eq!(edited, edit_word(edit_word(checksum, c, d), a, b), "{case:04X?}");
-    edited == 0xFFFF
+    let stays_ffff = case == (0xFFFF, [0xFFFF, 0x0000, 0xFFFF, 0x0000]);
+    assert_eq!(edited == 0xFFFF, stays_ffff, "{case:04X?}");
+    stays_ffff
 }
 
 #[test]
 fn two_different_words_may_come_in_either_order() {
-    // FFFF comes out only of FFFF, where both words go from FFFF to 0
     assert_eq!(count(every_checksum(EDGES), two_words), 1);
-    let all_ffff_and_0 = count(drawn(3), two_words);
-    assert!(all_ffff_and_0 > 100, "{all_ffff_and_0}");
+    let stay_ffff = count(drawn(3), two_words);
+    assert!(stay_ffff > 100, "{stay_ffff}");
 }
 
 /// The edit as a rewriter of UDP writes it.
