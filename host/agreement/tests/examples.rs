@@ -1,19 +1,15 @@
 //! "Examples to hold against", on the library: answers written down here, and the reference beside it.
 
-use agreement::call::{Call, Lending, Told};
-use agreement::compare::step;
-use agreement::sides::Library;
+mod support;
+
+use agreement::call::{Call, Told};
 use agreement::world::World;
 use reference::packets::{self, End, Plan, Sum, ACK, FIN, SYN};
 use reference::table::Slot;
-use reference::{Server, Service, PLACES};
+use reference::{Server, Service};
+use support::{refused, told, Both, KEPT, OPENED};
 
 const VIRTUAL: End = (0xC000_020A, 5432);
-const OPENED: u32 = 1;
-const KEPT: u32 = 2;
-
-/// The library's director, and the reference's going along.
-struct Both(World);
 
 impl Both {
     fn new(protocol: u8, scheduler: u8, weights: &[u16], slots: usize) -> Both {
@@ -25,19 +21,10 @@ impl Both {
     fn set_up(&mut self, protocol: u8, scheduler: u8, weights: &[u16], words: usize) -> Told {
         let servers = weights.len() as u32;
         let service = Service { address: VIRTUAL.0, port: VIRTUAL.1, protocol, scheduler, servers };
-        let mut all = Box::new([Server::default(); PLACES]);
-        for (number, &weight) in weights.iter().enumerate() {
-            let (address, port) = server(number as u32);
-            all[number] = Server { address, port, weight, count: 0 };
-        }
-        let row = Lending::Fresh { words, filled: 9 };
-        self.make(Call::SetUp { service, servers: all, row }).0
-    }
-
-    fn make(&mut self, call: Call) -> (Told, Vec<u8>) {
-        let stepped = step(&Library, &call, &self.0, None).unwrap();
-        self.0 = stepped.world;
-        (stepped.told, stepped.packet)
+        let numbered = (0..servers).map(server).zip(weights);
+        let weighted =
+            numbered.map(|((address, port), &weight)| Server { address, port, weight, count: 0 });
+        self.set_up_servers(service, &weighted.collect::<Vec<_>>(), words)
     }
 
     fn inbound(&mut self, plan: Plan, clock: u32) -> Told {
@@ -85,14 +72,6 @@ fn tcp(number: u32, flags: u8) -> Plan {
 
 fn udp(number: u32) -> Plan {
     packets::udp(client(number), VIRTUAL)
-}
-
-fn told(number: u32, change: u32) -> Told {
-    Told { refusal: 0, number, change }
-}
-
-fn refused(refusal: u32) -> Told {
-    Told { refusal, number: 0, change: 0 }
 }
 
 #[test]

@@ -41,7 +41,7 @@ fn ends_of_edit(rng: &mut Rng, plan: &Plan, world: &World, inbound: bool) -> (En
 }
 
 /// Sets the first whole word of data so that the transport checksum verifies as it stands.
-fn make_transport_verify(bytes: &mut [u8], plan: &Plan) {
+pub fn make_transport_verify(bytes: &mut [u8], plan: &Plan) {
     let header = usize::from(bytes[0] & 15) * 4;
     let total = bytes.len() - plan.trailing.len();
     let data = total - plan.data.len();
@@ -57,7 +57,7 @@ fn make_transport_verify(bytes: &mut [u8], plan: &Plan) {
 }
 
 /// Gives the header this checksum, and sets its identification so that it verifies.
-fn give_header_sum(bytes: &mut [u8], given: u16) {
+pub fn give_header_sum(bytes: &mut [u8], given: u16) {
     let header = usize::from(bytes[0] & 15) * 4;
     bytes[4..6].fill(0);
     bytes[10..12].copy_from_slice(&given.to_be_bytes());

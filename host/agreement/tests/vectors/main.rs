@@ -1,5 +1,6 @@
 //! The examples and vectors that the gate's program `vectors` runs, by the second implementation: the same text.
 
+mod editing;
 mod renewal;
 mod written;
 
@@ -44,6 +45,7 @@ fn calls(text: &mut String) {
 fn the_second_implementation_writes_what_the_gate_stores() {
     let mut text = String::new();
     checksums(&mut text);
+    editing::edits(&mut text);
     calls(&mut text);
     renewal::renewals(&mut text);
     assert_eq!(text, include_str!("../../../../crates/vectors/stdout"));

@@ -3,6 +3,7 @@
 mod book;
 mod checksums;
 mod connections;
+mod editing;
 mod examples;
 mod idle;
 mod order;

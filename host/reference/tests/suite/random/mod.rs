@@ -11,7 +11,7 @@ use crate::support::Director;
 use choose::{deed, good_setup};
 use reference::book::{check, Book};
 use reference::*;
-use rng::Rng;
+pub use rng::Rng;
 use tally::Tally;
 
 /// One list of calls from one seed.
