@@ -37,15 +37,17 @@ fn count<const N: usize>(
     cases.filter(|&case| law(case)).count()
 }
 
-/// Law 1; whether the case is its exception.
-fn twice(case: Case<3>) -> bool {
-    let (checksum, [a, b, c]) = case;
-    let by_b = edit_word(edit_word(checksum, a, b), b, c);
-    let at_once = edit_word(checksum, a, c);
-    let is_exception = (checksum, a, c) == (0xFFFF, 0xFFFF, 0x0000);
+/// Law 1, for any number of values between the first and the last; whether the case is its exception.
+fn chained<const N: usize>(case: Case<N>) -> bool {
+    let (checksum, values) = case;
+    let (first, last) = (values[0], values[N - 1]);
+    let pairs = values.windows(2);
+    let by_others = pairs.fold(checksum, |left, pair| edit_word(left, pair[0], pair[1]));
+    let at_once = edit_word(checksum, first, last);
+    let is_exception = (checksum, first, last) == (0xFFFF, 0xFFFF, 0x0000);
     match is_exception {
-        true => assert_eq!((by_b, at_once), (0x0000, 0xFFFF), "{case:04X?}"),
-        false => assert_eq!(by_b, at_once, "{case:04X?}"),
+        true => assert_eq!((by_others, at_once), (0x0000, 0xFFFF), "{case:04X?}"),
+        false => assert_eq!(by_others, at_once, "{case:04X?}"),
     }
     is_exception
 }
@@ -53,9 +55,15 @@ fn twice(case: Case<3>) -> bool {
 #[test]
 fn a_to_b_and_then_to_c_is_a_to_c_exactly_unless_ffff_ffff_0() {
     // an exception for each b
-    assert_eq!(count(every_checksum(WORDS.len()), twice), WORDS.len());
-    let exceptions = count(drawn(1), twice);
+    assert_eq!(count(every_checksum(WORDS.len()), chained::<3>), WORDS.len());
+    let exceptions = count(drawn(1), chained::<3>);
     assert!(exceptions > 5_000, "{exceptions}");
+}
+
+#[test]
+fn of_a_longer_chain_the_first_value_and_the_last_count() {
+    let exceptions = [count(drawn(7), chained::<4>), count(drawn(8), chained::<9>)];
+    assert!(exceptions.iter().all(|&met| met > 5_000), "{exceptions:?}");
 }
 
 /// Law 2; whether the case is its exception.
