@@ -1,4 +1,4 @@
-//! The programs that the drills and the tests of the live director start. Each stands with its Debian package in the table
+//! The programs that the drills and the tests start. Each stands with its Debian package in the table
 //! rig/programs.txt, by which the packages are installed; a program that isn't there doesn't compile here.
 
 #![forbid(unsafe_code)]
@@ -23,6 +23,8 @@ pub const SYSCTL: Program = Program::named("sysctl");
 pub const SETPRIV: Program = Program::named("setpriv");
 /// A terminal for a program.
 pub const SCRIPT: Program = Program::named("script");
+/// A shell, for what a document tells to type.
+pub const BASH: Program = Program::named("bash");
 /// Signals.
 pub const KILL: Program = Program::named("kill");
 /// Copies of files and directories.

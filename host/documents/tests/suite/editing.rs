@@ -1,8 +1,8 @@
 //! The edits of docs/EDITING.md are right, by the second implementation and by the page's own function for bash.
 
 use crate::repository::{cells, none_wrong, read, File};
+use programs::BASH;
 use reference::checksum::edit_word;
-use std::process::Command;
 
 const PAGE: &str = "docs/EDITING.md";
 
@@ -45,6 +45,6 @@ fn its_function_for_bash_gives_them() {
         script += &format!("edit {checksum:04X} {word:04X} {becomes:04X}\n");
         want += &format!("{new_checksum:04X}\n");
     }
-    let output = Command::new("bash").args(["-euc", &script]).output().unwrap();
+    let output = BASH.run(&["-euc", &script]);
     assert_eq!(String::from_utf8(output.stdout).unwrap(), want);
 }
