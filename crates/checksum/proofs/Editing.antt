@@ -1,7 +1,7 @@
 -- The editing laws of specs/Laws.antt. Edits in a row keep checksum and words modulo 65535, and congruent words are equal unless just one of them is FFFF.
-use mathlib.Core.Path.{_≡_, refl, sym, _∙_}
+use mathlib.Core.Path.{_≡_, sym, _∙_}
 use mathlib.Core.Logic.{_↔_, _≢_, ⊎-elim}
-use mathlib.Core.Bool.{Bool, true, false, cond}
+use mathlib.Core.Bool.{true, false, cond}
 use Prim.Native.Nat.{ℕ, _+_, _<_}
 use native.Mathlib.Omega.{arith}
 use lib.Dec.{eqb}
@@ -14,14 +14,13 @@ use Rattle.checksum.proofs.Laws.{laws}
 
 -- congruent words are equal where one is FFFF exactly if the other is
 same-word : (x y : ℕ) → x < 65536 → y < 65536 → (x ≡ 65535) ↔ (y ≡ 65535) → Congruent x y → x ≡ y
-same-word x y lx ly ones c = by-cases (eqb x 65535) refl
-  where
-    by-cases : (t : Bool) → eqb x 65535 ≡ t → x ≡ y
-    by-cases true e = let q = eqb-true x 65535 e in q ∙ sym (ones .0 q)
-    by-cases false e =
-        let not-x = eqb-false x 65535 e in
-        let not-y : y ≢ 65535 = λ q. not-x (ones .1 q) in
-        omega arith
+same-word x y lx ly ones c =
+    ⊎-elim
+    (λ (e : eqb x 65535 ≡ true). let q = eqb-true x 65535 e in q ∙ sym (ones .0 q))
+    (λ (e : eqb x 65535 ≡ false). let n = eqb-false x 65535 e in
+    let n′ : y ≢ 65535 = λ q. n (ones .1 q) in
+    omega arith)
+    (truth (eqb x 65535))
 
 -- two edits, of one word or of two
 module _ (hc a a′ b b′ : ℕ) (l : hc < 65536) (la : a < 65536) (la′ : a′ < 65536) (lb : b < 65536) (lb′ : b′ < 65536) where

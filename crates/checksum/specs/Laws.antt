@@ -1,4 +1,4 @@
--- What RFC 1624's edit does to a checksum, as statements; proofs/Laws.antt proves them (`laws`), the last three proofs/Editing.antt (`editing`).
+-- What RFC 1624's edit does to a checksum, as statements; proofs/Laws.antt proves them (`laws`), and proofs/Editing.antt the last three (`editing`).
 -- Assumes nothing: these are definitions.
 use mathlib.Core.Path.{_≡_}
 use mathlib.Core.Logic.{_↔_, _≢_}

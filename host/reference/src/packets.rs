@@ -31,7 +31,7 @@ pub struct Plan {
     pub flags: u8,
     /// IP options, padded to whole words, at most 40 bytes.
     pub ip_options: Vec<u8>,
-    /// TCP options, padded to whole words, at most 40 bytes.
+    /// TCP options, padded to whole words, at most 40 bytes; UDP has none.
     pub tcp_options: Vec<u8>,
     pub data: Vec<u8>,
     /// Bytes past the total length.
@@ -82,6 +82,17 @@ fn plan(protocol: u8, source: End, destination: End, flags: u8) -> Plan {
 }
 
 impl Plan {
+    /// The same with options, data of an odd length and bytes past the total length.
+    pub fn with_options_and_data(self) -> Plan {
+        Plan {
+            ip_options: vec![1, 1, 7, 3, 9],
+            tcp_options: vec![2, 4, 5, 0xB4],
+            data: vec![0xFE; 13],
+            trailing: vec![0x55; 9],
+            ..self
+        }
+    }
+
     /// The bytes.
     pub fn build(&self) -> Vec<u8> {
         let mut payload = match self.protocol {

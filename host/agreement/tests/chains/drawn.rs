@@ -1,7 +1,7 @@
 //! Drawn packets through drawn chains, there and back and onwards, with a bias to FFFF and 0.
 
 use crate::chain::{plan, Packet, KINDS};
-use crate::straight::is_as_straight;
+use crate::one_director::same_as_one_director;
 use agreement::call::hex;
 use agreement::choose::sums::{give_header_sum, make_transport_verify};
 use agreement::many::singly::Way;
@@ -87,7 +87,7 @@ impl Drawn {
     }
 
     fn check(&self) {
-        let left = is_as_straight(&self.packet, self.ends);
+        let left = same_as_one_director(&self.packet, self.ends);
         if self.is_there_and_back() {
             assert_eq!(hex(&left.bytes), hex(&self.returned().bytes), "{:X?}", self.ends);
         }

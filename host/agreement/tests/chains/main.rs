@@ -2,7 +2,7 @@
 
 mod chain;
 mod drawn;
-mod straight;
+mod one_director;
 #[path = "../support/mod.rs"]
 mod support;
 mod there_and_back;

@@ -15,15 +15,8 @@ const ENDS: [End; 3] = [VIRTUAL, BETWEEN, VIRTUAL];
 /// The checksums next to FFFF, and 0 itself: each leaves as it came.
 const OTHERS: [u16; 3] = [0xFFFE, 0x0000, 0x0001];
 
-/// Options, data and trailing bytes.
-fn rich(kind: (u8, Way)) -> Plan {
-    Plan {
-        ip_options: vec![1, 1, 7, 3, 9],
-        tcp_options: vec![2, 4, 5, 0xB4],
-        data: vec![0xFE; 13],
-        trailing: vec![0x55; 9],
-        ..plan(kind, CLIENT, &ENDS)
-    }
+fn full_plan(kind: (u8, Way)) -> Plan {
+    plan(kind, CLIENT, &ENDS).with_options_and_data()
 }
 
 /// The packet leaves as the other one, and both verify.
@@ -39,7 +32,7 @@ fn leaves_as(packet: &Packet, wanted: &Packet) {
 fn right_packets_leave_as_they_came() {
     for kind in KINDS {
         let (way, client) = (kind.1, CLIENT);
-        let plan = rich(kind);
+        let plan = full_plan(kind);
         let packet = Packet { way, client, bytes: plan.build() };
         leaves_as(&packet, &packet);
         // between the two directors it is another packet
@@ -53,7 +46,7 @@ fn right_packets_leave_as_they_came() {
 
 /// The identification is chosen so that a header checksum is valid.
 fn with_header_checksum(kind: (u8, Way), checksum: u16) -> Packet {
-    let mut bytes = rich(kind).build();
+    let mut bytes = full_plan(kind).build();
     give_header_sum(&mut bytes, checksum);
     Packet { way: kind.1, client: CLIENT, bytes }
 }
@@ -75,7 +68,7 @@ fn a_valid_header_checksum_of_ffff_leaves_as_0000() {
 
 /// Two bytes of data are chosen so that a transport checksum is valid.
 fn with_transport_checksum(kind: (u8, Way), checksum: u16) -> Packet {
-    let plan = Plan { transport_sum: Sum::Given(checksum), ..rich(kind) };
+    let plan = Plan { transport_sum: Sum::Given(checksum), ..full_plan(kind) };
     let mut bytes = plan.build();
     make_transport_verify(&mut bytes, &plan);
     Packet { way: kind.1, client: CLIENT, bytes }

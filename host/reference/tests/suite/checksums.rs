@@ -23,18 +23,10 @@ fn sent_out(plan: &Plan) -> Vec<u8> {
     packet
 }
 
-fn rich(protocol: u8, mut plan: Plan) -> Plan {
-    plan.ip_options = vec![1, 1, 7, 3, 9];
-    plan.tcp_options = if protocol == TCP { vec![2, 4, 5, 0xB4] } else { vec![] };
-    plan.data = vec![0xFE; 13];
-    plan.trailing = vec![0x55; 9];
-    plan
-}
-
 #[test]
 fn inbound_leaves_as_if_built_for_the_server() {
     for protocol in [TCP, UDP] {
-        let plan = rich(protocol, client_plan(protocol, 0, SYN));
+        let plan = client_plan(protocol, 0, SYN).with_options_and_data();
         let want = Plan { destination: server_end(0), ..plan.clone() };
         assert_eq!(sent_in(&plan), want.build());
     }
@@ -42,9 +34,9 @@ fn inbound_leaves_as_if_built_for_the_server() {
 
 #[test]
 fn outbound_leaves_as_if_built_by_the_service() {
-    let tcp = rich(TCP, packets::tcp(server_end(0), client(0), ACK));
-    let udp = rich(UDP, packets::udp(server_end(0), client(0)));
-    for plan in [tcp, udp] {
+    let tcp = packets::tcp(server_end(0), client(0), ACK);
+    let udp = packets::udp(server_end(0), client(0));
+    for plan in [tcp, udp].map(Plan::with_options_and_data) {
         let want = Plan { source: VIRTUAL, ..plan.clone() };
         assert_eq!(sent_out(&plan), want.build());
     }

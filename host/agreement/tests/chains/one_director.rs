@@ -1,4 +1,4 @@
-//! A chain of two directors beside one director from the first virtual end straight to the last server.
+//! A chain of two directors beside one director from the first virtual end to the last server.
 
 use crate::chain::{plan, set_up, Packet, CLIENT, KINDS};
 use crate::support::{refused, told};
@@ -20,12 +20,12 @@ const ENDS: [End; 7] = [
     (0xC000_020A, 0x1538),
 ];
 
-/// Two directors leave what one leaves.
-pub fn is_as_straight(packet: &Packet, ends: [End; 3]) -> Packet {
-    let left = packet.through(&ends);
-    let straight = packet.through(&[ends[0], ends[2]]);
-    assert_eq!(hex(&left.bytes), hex(&straight.bytes), "{ends:X?}, from {packet:X?}");
-    left
+/// Checks that two directors leave what one leaves, and gives that.
+pub fn same_as_one_director(packet: &Packet, ends: [End; 3]) -> Packet {
+    let by_two = packet.through(&ends);
+    let by_one = packet.through(&[ends[0], ends[2]]);
+    assert_eq!(hex(&by_two.bytes), hex(&by_one.bytes), "{ends:X?}, from {packet:X?}");
+    by_two
 }
 
 /// Both checksums are the given one; the header's is valid, the transport's is valid or any.
@@ -46,17 +46,17 @@ fn choices() -> impl Iterator<Item = [End; 3]> {
     (0..n.pow(3)).map(move |choice| [choice / n / n, choice / n % n, choice % n].map(|at| ENDS[at]))
 }
 
-fn edges_are_as_straight(kind: (u8, Way), ends: [End; 3]) {
+fn check_edges(kind: (u8, Way), ends: [End; 3]) {
     for checksum in [0x0000, 0x0001, 0x1234, 0xFFFE, 0xFFFF] {
-        is_as_straight(&with_checksums(kind, ends, checksum, true), ends);
-        is_as_straight(&with_checksums(kind, ends, checksum, false), ends);
+        same_as_one_director(&with_checksums(kind, ends, checksum, true), ends);
+        same_as_one_director(&with_checksums(kind, ends, checksum, false), ends);
     }
 }
 
 #[test]
 fn two_directors_leave_what_one_leaves() {
     for (kind, ends) in KINDS.iter().flat_map(|&kind| choices().map(move |ends| (kind, ends))) {
-        edges_are_as_straight(kind, ends);
+        check_edges(kind, ends);
     }
 }
 
