@@ -4,7 +4,7 @@ use Prim.Native.Nat.{ℕ, _+_, _*_, _/_, _%_, _<_}
 use native.Mathlib.Omega.{arith}
 use Rattle.checksum.specs.Ones.{carried, inverted, edited}
 use Rattle.checksum.specs.Laws.{Exception}
-use Rattle.checksum.proofs.Reduced.{carried-fits}
+use Rattle.checksum.proofs.Reduced.{carried-plain, carried-fits}
 
 -- the multiples are written out, which `omega` reads
 pub record Congruent (a b : ℕ) : Type 0 where
@@ -17,10 +17,6 @@ congruent-mod a b c = by-parts a b (c .x) (c .y) (c .balanced)
   where
     by-parts : (a b x y : ℕ) → a + 65535 * x ≡ b + 65535 * y → a % 65535 ≡ b % 65535
     by-parts a b x y e = omega arith
-
--- a sum with its carry added back differs from the plain sum by 65535 times the carry
-carried-plain : (s : ℕ) → carried s + 65535 * (s / 65536) ≡ s
-carried-plain s = omega arith
 
 plain : (hc m m′ x y c d : ℕ) → hc < 65536 → m < 65536 → x + 65535 * c ≡ inverted hc + inverted m → y + 65535 * d ≡ x + m′ → y < 65536
     → inverted y + m′ + 65535 * 1 ≡ hc + m + 65535 * (c + d)

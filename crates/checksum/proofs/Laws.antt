@@ -11,9 +11,9 @@ use lib.Seq.{getD-set-same, getD-set-other, set-set}
 use lib.Dec.{eqb, lit<}
 use borrow.Author.Tests.{eq-eqb, ne-eqb, eqb-true, eqb-false}
 use Rattle.lists.proofs.Below.{below-set}
-use Rattle.checksum.specs.Ones.{inverted, onesSum, verifies, edited, fresh, editedAt, withWord, Words}
+use Rattle.checksum.specs.Ones.{inverted, onesSum, total, verifies, edited, fresh, editedAt, withWord, Words}
 use Rattle.checksum.specs.Laws.{Checked, Edit, Exception, Laws}
-use Rattle.checksum.proofs.Totals.{total, total-set, at-most-total, other-word}
+use Rattle.checksum.proofs.Totals.{total-set, at-most-total, other-word}
 use Rattle.checksum.proofs.Reduced.{reduced, sum-reduced, reduced-ones, complement, complement-small}
 use Rattle.checksum.proofs.Edits.{Congruent, congruent-mod, edited-congruent, edited-fits, edited-ones}
 

@@ -1,6 +1,7 @@
 pub mod Words
 pub mod Totals
 pub mod Reduced
+pub mod Grouping
 pub mod Edits
 pub mod Laws
 pub mod Examples

@@ -1,29 +1,40 @@
 -- The one's complement sum as arithmetic modulo 65535: 0 for no sum at all, else a number of 1 to 65535.
-use mathlib.Core.Path.{_≡_, refl, ap, _∙_}
+use mathlib.Core.Path.{_≡_, refl, sym, ap, _∙_}
 use mathlib.Core.List.{List, [], _∷_}
 use mathlib.Core.Logic.{_↔_, _≢_}
-use Prim.Native.Nat.{ℕ, zero, suc, _+_, _%_, _≤_, _<_}
+use Prim.Native.Nat.{ℕ, zero, suc, _+_, _*_, _/_, _%_, _≤_, _<_}
 use native.Mathlib.Nat.{not-suc-le-zero, add-zero, add-assoc, suc-add, mod-add-mod}
 use native.Mathlib.Omega.{arith}
 use Rattle.lists.proofs.Below.{below-tail}
-use Rattle.checksum.specs.Ones.{carried, onesAdd, inverted, sumFrom, Words}
-use Rattle.checksum.proofs.Totals.{total}
+use Rattle.checksum.specs.Ones.{carried, onesAdd, inverted, sumFrom, total, Words}
 
 -- what adding back each carry leaves of a number
 abbrev pub reduced : ℕ → ℕ
 reduced zero = 0
 reduced (suc n) = suc (n % 65535)
 
+-- a sum with its carry added back differs from the plain sum by 65535 times the carry
+pub carried-plain : (s : ℕ) → carried s + 65535 * (s / 65536) ≡ s
+carried-plain s = omega arith
+
 pub carried-fits : (s : ℕ) → s ≤ 131070 → carried s < 65536
 carried-fits s h = omega arith
 
-carried-reduced : (s : ℕ) → s ≤ 131070 → carried s ≡ reduced s
-carried-reduced zero h = refl
-carried-reduced (suc n) h = omega arith
-
-reduced-small : (s : ℕ) → s < 65536 → s ≡ reduced s
+pub reduced-small : (s : ℕ) → s < 65536 → s ≡ reduced s
 reduced-small zero h = refl
 reduced-small (suc n) h = omega arith
+
+-- a multiple of 65535 more leaves the same, but of 0
+pub reduced-more : (n m : ℕ) → (n ≡ 0 → m ≡ 0) → reduced (n + 65535 * m) ≡ reduced n
+reduced-more zero m none = rw (none refl) refl
+reduced-more (suc n) m none = rw suc-add (omega arith)
+
+-- a carry added back leaves the same
+pub reduced-carried : (s : ℕ) → reduced (carried s) ≡ reduced s
+reduced-carried s = sym (reduced-more (carried s) (s / 65536) (λ e. omega arith)) ∙ ap reduced (carried-plain s)
+
+carried-reduced : (s : ℕ) → s ≤ 131070 → carried s ≡ reduced s
+carried-reduced s h = reduced-small (carried s) (carried-fits s h) ∙ reduced-carried s
 
 reduced-add : (a b : ℕ) → reduced (reduced a + b) ≡ reduced (a + b)
 reduced-add zero b = refl

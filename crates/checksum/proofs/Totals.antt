@@ -7,10 +7,7 @@ use native.Mathlib.Nat.{not-suc-le-zero, le-of-suc-le-suc, zero-add}
 use native.Mathlib.Omega.{arith}
 use lib.ListN.{length, getD, set, length-set}
 use lib.Seq.{getD-set-other}
-
-abbrev pub total : List ℕ → ℕ
-total [] = 0
-total (w ∷ ws) = w + total ws
+pub use Rattle.checksum.specs.Ones.{total}
 
 pub total-append : (vs ws : List ℕ) → total (vs ++ ws) ≡ total vs + total ws
 total-append [] ws = sym (zero-add (total ws))

@@ -1,5 +1,5 @@
--- What RFC 1624's edit does to a checksum, as statements; proofs/Laws.antt proves them (`laws`), and proofs/Editing.antt the last three (`editing`).
--- Assumes nothing: these are definitions.
+-- What a sum by groups gives (proved in proofs/Grouping.antt, `grouping`), and what RFC 1624's edit does to a checksum (proofs/Laws.antt, `laws`;
+-- edits in a row: proofs/Editing.antt, `editing`), as statements. Assumes nothing: these are definitions.
 use mathlib.Core.Path.{_≡_}
 use mathlib.Core.Logic.{_↔_, _≢_}
 use mathlib.Core.Bool.{true, cond}
@@ -7,7 +7,11 @@ use mathlib.Core.List.{List}
 use Prim.Native.Nat.{ℕ, _<_}
 use lib.ListN.{length, getD, set}
 use lib.Dec.{eqb}
-use Rattle.checksum.specs.Ones.{Words, verifies, edited, fresh, editedAt, withWord}
+use Rattle.checksum.specs.Ones.{Bytes, Words, wordsOf, onesSum, groupsOf, WholeGroups, total, folded, verifies, edited, fresh, editedAt, withWord}
+
+-- "for any multiple of four up to 65,532 bytes .. summing by groups gives what adding the 16-bit words one by one gives, each carry added back"
+abbrev pub GroupLaw : Type 0
+GroupLaw = (b : List ℕ) → Bytes b → WholeGroups (length b) → folded (total (groupsOf b)) ≡ onesSum (wordsOf b)
 
 -- words with their checksum at place i
 pub record Checked (ws : List ℕ) (i : ℕ) : Type 0 where
