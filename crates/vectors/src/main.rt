@@ -1,9 +1,11 @@
-// The examples that are not proved (SCOPE E1 to E4), the published vectors of RFC 1071 and 1624, edits in a row, and renewals, run.
+// The examples that are not proved (SCOPE E1 to E4), the published vectors of RFC 1071 and 1624, sums, edits in a row, and renewals, run.
 mod editing;
 mod renewal;
+mod sums;
 
 use crate::editing::edits_in_a_row;
 use crate::renewal::renewals;
+use crate::sums::sums;
 use checksum::edit;
 use checksum::ones_sum;
 use director::control::set_weight;
@@ -96,6 +98,7 @@ fn rows() {
 
 fn main() {
     checksums();
+    sums();
     edits_in_a_row();
     one_slot();
     clocks();
