@@ -2,17 +2,16 @@
 use mathlib.Core.Path.{_≡_, refl, sym, ap, _∙_}
 use mathlib.Core.List.{List, [], _∷_}
 use Prim.Native.Nat.{ℕ, zero, suc, _+_, _*_, _/_, _%_, _≤_, _<_}
-use native.Mathlib.Nat.{zero-add, suc-add, add-suc}
+use native.Mathlib.Nat.{suc-add, add-suc}
 use native.Mathlib.Numerals.{add-one, add-two, add-three, add-four}
 use native.Mathlib.Omega.{arith}
-use lib.Dec.{lit<}
 use lib.ListN.{length, take, drop, drop-of-length-le}
 use lib.Seq.{drop-cons, length-take-le}
 use Rattle.lists.proofs.Below.{below-tail, below-take}
 use Rattle.checksum.specs.Ones.{Bytes, carried, wordsOf, sumFrom, onesSum, groupsOf, groupAt, WholeGroups, total, Foldable, folded}
 use Rattle.checksum.specs.Laws.{GroupLaw}
 use Rattle.checksum.proofs.Words.{words-fit}
-use Rattle.checksum.proofs.Reduced.{reduced, reduced-small, reduced-more, reduced-carried, sum-reduced}
+use Rattle.checksum.proofs.Reduced.{reduced, reduced-small, reduced-more, reduced-carried, ones-sum-reduced}
 
 -- the groups' sum beside the words': 65535 times the sum of the first words more
 record Beside (b : List ℕ) : Type 0 where
@@ -68,7 +67,7 @@ grouping b all whole =
     folded-reduced (total (groupsOf b)) (groups-below b all whole)
     ∙ ap reduced (both .balanced)
     ∙ reduced-more (total (wordsOf b)) (both .firsts) (λ e. omega (arith, both .within))
-    ∙ sym (sum-reduced 0 (wordsOf b) (lit< tt) (words-fit b all) ∙ ap reduced (zero-add (total (wordsOf b))))
+    ∙ sym (ones-sum-reduced (wordsOf b) (words-fit b all))
 
 -- among whole groups a place at which some are left has four bytes
 pub group-room : (n i : ℕ) → WholeGroups n → i % 4 ≡ 0 → i < n → i + 3 < n
@@ -104,6 +103,7 @@ cut-sum (suc k) s [] = simp suc-add refl
 cut-sum (suc k) s (x ∷ []) = simp (suc-add, add-suc) refl
 cut-sum (suc k) s (x ∷ y ∷ b) = simp (suc-add, add-suc) (cut-sum k (carried (s + (x * 256 + y))) b)
 
+-- of the bytes before a place at which a group ends
 module _ (b : List ℕ) (m : ℕ) (all : Bytes b) (whole : WholeGroups m) (within : m ≤ length b) where
   front : WholeGroups (length (take m b))
   front = rw (length-take-le m b within) whole

@@ -4,7 +4,6 @@ use mathlib.Core.Logic.{_↔_, _≢_}
 use mathlib.Core.Bool.{Bool, true, false}
 use mathlib.Core.List.{List}
 use Prim.Native.Nat.{ℕ, _+_, _%_, _<_}
-use native.Mathlib.Nat.{zero-add}
 use native.Mathlib.Omega.{arith}
 use lib.ListN.{length, getD, set, length-set}
 use lib.Seq.{getD-set-same, getD-set-other, set-set}
@@ -14,7 +13,7 @@ use Rattle.lists.proofs.Below.{below-set}
 use Rattle.checksum.specs.Ones.{inverted, onesSum, total, verifies, edited, fresh, editedAt, withWord, Words}
 use Rattle.checksum.specs.Laws.{Checked, Edit, Exception, Laws}
 use Rattle.checksum.proofs.Totals.{total-set, at-most-total, other-word}
-use Rattle.checksum.proofs.Reduced.{reduced, sum-reduced, reduced-ones, complement, complement-small}
+use Rattle.checksum.proofs.Reduced.{reduced, ones-sum-reduced, reduced-ones, complement, complement-small}
 use Rattle.checksum.proofs.Edits.{Congruent, congruent-mod, edited-congruent, edited-fits, edited-ones}
 
 -- two tests against one number agree where the equations do
@@ -27,7 +26,7 @@ same-test a b n h = by-cases (eqb b n) refl
 
 -- words verify exactly where their total is a multiple of 65535 and not 0
 sum-ones : (ws : List ℕ) → Words ws → (onesSum ws ≡ 65535) ↔ ((total ws % 65535 ≡ 0) × (0 < total ws))
-sum-ones ws all = rw (sum-reduced 0 ws (lit< tt) all, zero-add) (reduced-ones (total ws))
+sum-ones ws all = rw (ones-sum-reduced ws all) (reduced-ones (total ws))
 
 -- two lists of words whose totals are not 0 and congruent verify alike
 pub verify-alike : (vs ws : List ℕ) → Words vs → Words ws → 0 < total vs → 0 < total ws → Congruent (total vs) (total ws) → verifies vs ≡ verifies ws
@@ -39,7 +38,7 @@ verify-alike vs ws all-v all-w hv hw c =
 -- ---- a checksum beside a fresh calculation
 
 fresh-reduced : (ws : List ℕ) → Words ws → fresh ws ≡ inverted (reduced (total ws))
-fresh-reduced ws all = ap inverted (sum-reduced 0 ws (lit< tt) all ∙ ap reduced (zero-add (total ws)))
+fresh-reduced ws all = ap inverted (ones-sum-reduced ws all)
 
 module _ (ws : List ℕ) (i : ℕ) (c : Checked ws i) where
   -- the words with a 0 for the checksum, as a fresh calculation reads them

@@ -3,10 +3,11 @@ use mathlib.Core.Path.{_≡_, refl, sym, ap, _∙_}
 use mathlib.Core.List.{List, [], _∷_}
 use mathlib.Core.Logic.{_↔_, _≢_}
 use Prim.Native.Nat.{ℕ, zero, suc, _+_, _*_, _/_, _%_, _≤_, _<_}
-use native.Mathlib.Nat.{not-suc-le-zero, add-zero, add-assoc, suc-add, mod-add-mod}
+use native.Mathlib.Nat.{not-suc-le-zero, zero-add, add-zero, add-assoc, suc-add, mod-add-mod}
 use native.Mathlib.Omega.{arith}
+use lib.Dec.{lit<}
 use Rattle.lists.proofs.Below.{below-tail}
-use Rattle.checksum.specs.Ones.{carried, onesAdd, inverted, sumFrom, total, Words}
+use Rattle.checksum.specs.Ones.{carried, onesAdd, inverted, sumFrom, onesSum, total, Words}
 
 -- what adding back each carry leaves of a number
 abbrev pub reduced : ℕ → ℕ
@@ -40,7 +41,7 @@ reduced-add : (a b : ℕ) → reduced (reduced a + b) ≡ reduced (a + b)
 reduced-add zero b = refl
 reduced-add (suc a) b = simp (suc-add, mod-add-mod)
 
-pub sum-reduced : (s : ℕ) (ws : List ℕ) → s < 65536 → Words ws → sumFrom s ws ≡ reduced (s + total ws)
+sum-reduced : (s : ℕ) (ws : List ℕ) → s < 65536 → Words ws → sumFrom s ws ≡ reduced (s + total ws)
 sum-reduced s [] h all = rw add-zero (reduced-small s h)
 sum-reduced s (w ∷ ws) h all =
     let hw : w < 65536 = all .at 0 in
@@ -49,6 +50,9 @@ sum-reduced s (w ∷ ws) h all =
     ∙ ap (λ (x : ℕ). reduced (x + total ws)) (carried-reduced (s + w) fits)
     ∙ reduced-add (s + w) (total ws)
     ∙ ap reduced (add-assoc s w (total ws))
+
+pub ones-sum-reduced : (ws : List ℕ) → Words ws → onesSum ws ≡ reduced (total ws)
+ones-sum-reduced ws all = sum-reduced 0 ws (lit< tt) all ∙ ap reduced (zero-add (total ws))
 
 -- all ones exactly where the number is a multiple of 65535 and not 0
 pub reduced-ones : (n : ℕ) → (reduced n ≡ 65535) ↔ ((n % 65535 ≡ 0) × (0 < n))

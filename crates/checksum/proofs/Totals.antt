@@ -1,4 +1,4 @@
--- The sum of words as a plain number, and what a word written does to it.
+-- Laws of the plain sum of words, which is passed on with them: what a word written does to it.
 use mathlib.Core.Path.{_≡_, sym}
 use mathlib.Core.List.{List, [], _∷_, _++_}
 use mathlib.Core.Logic.{_≢_}

@@ -6,7 +6,7 @@ ghost use Rattle.checksum.specs.Ones.{carried, onesAdd, wordsOf, wordAt,
 ghost use Rattle.checksum.specs.Ones.{groupOf, groupsOf, groupAt, WholeGroups, total, Foldable, folded};
 
 // The most bytes that are summed by groups before a fold.
-const MOST_BYTES: usize = 65532;
+const MOST_IN_GROUPS: usize = 65532;
 
 // A sum with its carry out of bit 15 added back.
 fn add_carry(sum: u64) -> u64
@@ -80,10 +80,10 @@ fn fold(sum: u64) -> u16
 fn in_groups(length: usize) -> usize
     ensures { λ r. ⌜ WholeGroups r × (r ≤ length) ⌝ }
 {
-    if length < MOST_BYTES {
+    if length < MOST_IN_GROUPS {
         length / 4 * 4
     } else {
-        MOST_BYTES
+        MOST_IN_GROUPS
     }
 }
 
