@@ -1,37 +1,55 @@
 //! `bench SIDE CALL SLOTS SERVERS REPS`: makes a sound state over a nearly full table, and repeats one call on it.
+//! `bench SIDE sum BYTES REPS`: repeats the one's complement sum of some bytes.
 //!
 //! SIDE is library, reference or plain; CALL is kept, outbound, opening, renewal or tick. Or SIDE is serve or burst: then it is one
 //! call with REPS packets, kept, outbound or opening. With `--one-port` each client has an address of its own and all have one port,
 //! instead of few addresses with many ports; with `--first` the packets are of the client in the first slot, not in the last that is
 //! used; with `--free=N` the last N slots are free and not one; with `--scheduler=N` the scheduler is N and not 1. Count two runs with
 //! different REPS under callgrind: their difference is the calls alone (the script `bench` at the top of the repository does that).
-//! With `--time` it prints nanoseconds a call instead, of the first three sides.
+//! With `--time` it prints nanoseconds a call or a sum instead, of the first three sides.
 
 mod many;
 mod plain;
 mod scene;
 mod sides;
+mod sum;
 
 use scene::{Call, Clients, Plan, Scene};
 use std::time::Instant;
 
 const USAGE: &str = "usage: bench library|reference|plain kept|outbound|opening|renewal|tick SLOTS SERVERS REPS [FLAG..]
        bench serve|burst kept|outbound|opening SLOTS SERVERS PACKETS [FLAG..]
+       bench library|reference|plain sum BYTES REPS [--time]
 flags: --time --one-port --first --free=N --scheduler=N";
 
 fn main() {
     let words: Vec<String> = std::env::args().skip(1).collect();
     let (flags, words): (Vec<&str>, Vec<&str>) =
         words.iter().map(String::as_str).partition(|word| word.starts_with("--"));
-    let [side, call, slots, servers, reps] = words[..] else { usage() };
-    let call = Call::named(call).unwrap_or_else(|| usage());
-    let scene = Scene::new(call, plan(number(slots), number(servers), &flags));
-    let (reps, timed) = (number(reps), flags.contains(&"--time"));
-    if timed && ["serve", "burst"].contains(&side) {
-        usage();
+    let timed = flags.contains(&"--time");
+    match words[..] {
+        [side, "sum", bytes, reps] => {
+            let one = sum::of_side(side).unwrap_or_else(|| usage());
+            let (bytes, reps) = (number(bytes), number(reps));
+            tell(reps, timed, || sum::repeated(one, bytes, reps));
+        }
+        [side, call, slots, servers, reps] => {
+            let call = Call::named(call).unwrap_or_else(|| usage());
+            let scene = Scene::new(call, plan(number(slots), number(servers), &flags));
+            let reps = number(reps);
+            if timed && ["serve", "burst"].contains(&side) {
+                usage();
+            }
+            tell(reps, timed, || run(&scene, side, reps));
+        }
+        _ => usage(),
     }
+}
+
+/// Prints what was answered, or how many nanoseconds one of the repetitions took.
+fn tell(reps: usize, timed: bool, run: impl FnOnce() -> u64) {
     let begin = Instant::now();
-    let told = run(&scene, side, reps);
+    let told = run();
     let each = begin.elapsed().as_nanos() as f64 / reps.max(1) as f64;
     match timed {
         true => println!("{each:.0}"),

@@ -86,3 +86,16 @@ pub fn redirect(packet: &mut [u8], address: u32, port: u16) {
         packet[at..at + 2].copy_from_slice(&new.to_be_bytes());
     }
 }
+
+/// RFC 1071: the sum of the big-endian words of a packet, or of a part of it.
+pub fn ones_sum(bytes: &[u8]) -> u16 {
+    let words = bytes.chunks_exact(2);
+    let mut sum = words.remainder().first().map_or(0, |&odd| u32::from(odd) << 8);
+    for word in words {
+        sum += u32::from(u16::from_be_bytes([word[0], word[1]]));
+    }
+    while sum > 0xFFFF {
+        sum = (sum & 0xFFFF) + (sum >> 16);
+    }
+    sum as u16
+}

@@ -2,6 +2,7 @@
 
 mod editing;
 mod renewal;
+mod sums;
 mod written;
 
 use reference::checksum;
@@ -10,12 +11,8 @@ use written::Written;
 
 fn checksums(text: &mut String) {
     text.push_str("RFC 1071: the sum of 0001 f203 f4f5 f6f7, and of the same bytes swapped\n");
-    for bytes in [
-        [0x00, 0x01, 0xf2, 0x03, 0xf4, 0xf5, 0xf6, 0xf7],
-        [0x01, 0x00, 0x03, 0xf2, 0xf5, 0xf4, 0xf7, 0xf6],
-    ] {
-        writeln!(text, "  {:04x}", checksum::fold(checksum::sum(&bytes))).unwrap();
-    }
+    sums::summed(text, &[0x00, 0x01, 0xf2, 0x03, 0xf4, 0xf5, 0xf6, 0xf7]);
+    sums::summed(text, &[0x01, 0x00, 0x03, 0xf2, 0xf5, 0xf4, 0xf7, 0xf6]);
     text.push_str("RFC 1624: the checksum dd2f, where 5555 becomes 3285\n");
     writeln!(text, "  {:04x}", checksum::edit_word(0xDD2F, 0x5555, 0x3285)).unwrap();
 }
@@ -45,6 +42,7 @@ fn calls(text: &mut String) {
 fn the_second_implementation_writes_what_the_gate_stores() {
     let mut text = String::new();
     checksums(&mut text);
+    sums::sums(&mut text);
     editing::edits(&mut text);
     calls(&mut text);
     renewal::renewals(&mut text);

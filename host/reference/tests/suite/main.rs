@@ -13,5 +13,6 @@ mod renewal;
 mod rows;
 mod schedulers;
 mod setup;
+mod summing;
 mod support;
 mod unsound;

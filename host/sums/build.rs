@@ -1,0 +1,5 @@
+//! Links the archive of the sum alone.
+
+fn main() {
+    archives::link(&["sums"]);
+}
