@@ -1,4 +1,5 @@
-// Sums of bytes that are summed by groups of four as far as that goes, and then by words: long ones, and ones that end within a group.
+// Sums of bytes that are summed by groups of four as far as that goes, and then by words: long ones, ones that end within a group, and one
+// that takes all three folds.
 use crate::print_word;
 use checksum::ones_sum;
 
@@ -31,7 +32,17 @@ fn short() {
     print_word(ones_sum(&bytes[0..0]));
 }
 
+// Two groups, with a carry left after two folds.
+fn folds() {
+    io::write_all(
+        1,
+        b"sum of ff ff ff ff 00 01 00 00, whose two groups take three folds\n",
+    );
+    print_word(ones_sum(b"\xff\xff\xff\xff\x00\x01\x00\x00"));
+}
+
 pub fn sums() {
     long();
     short();
+    folds();
 }

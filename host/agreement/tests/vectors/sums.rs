@@ -1,4 +1,4 @@
-//! Sums at the bounds of a packet's length, and of lengths that are no multiple of four.
+//! Sums at the bounds of a packet's length, of lengths that are no multiple of four, and of groups that take three folds.
 
 use reference::checksum::{fold, sum};
 use std::fmt::Write;
@@ -25,7 +25,13 @@ fn shortest(text: &mut String) {
     (0..=bytes.len()).rev().for_each(|length| summed(text, &bytes[..length]));
 }
 
+fn folded(text: &mut String) {
+    text.push_str("sum of ff ff ff ff 00 01 00 00, whose two groups take three folds\n");
+    summed(text, &[0xFF, 0xFF, 0xFF, 0xFF, 0x00, 0x01, 0x00, 0x00]);
+}
+
 pub fn sums(text: &mut String) {
     longest(text);
     shortest(text);
+    folded(text);
 }
