@@ -1,7 +1,7 @@
 -- The law of a sum by groups of specs/Laws.antt. A group is its two words and 65535 times the first, and a fold takes off 65535 times its carry.
 use mathlib.Core.Path.{_≡_, refl, sym, ap, _∙_}
 use mathlib.Core.List.{List, [], _∷_}
-use Prim.Native.Nat.{ℕ, zero, suc, _+_, _*_, _/_, _%_, _≤_, _<_}
+use Prim.Native.Nat.{ℕ, zero, suc, _+_, _-_, _*_, _^_, _/_, _%_, _≤_, _<_}
 use native.Mathlib.Nat.{suc-add, add-suc}
 use native.Mathlib.Numerals.{add-one, add-two, add-three, add-four}
 use native.Mathlib.Omega.{arith}
@@ -33,7 +33,7 @@ beside (a ∷ b ∷ c ∷ d ∷ bs) h =
     }
 
 -- each group is below 2^32
-groups-most : (b : List ℕ) → Bytes b → total (groupsOf b) ≤ length b / 4 * 4294967295
+groups-most : (b : List ℕ) → Bytes b → total (groupsOf b) ≤ length b / 4 * (2 ^ 32 - 1)
 groups-most [] all = omega arith
 groups-most (a ∷ []) all = omega arith
 groups-most (a ∷ b ∷ []) all = omega arith
@@ -45,14 +45,14 @@ groups-most (a ∷ b ∷ c ∷ d ∷ bs) all =
 pub groups-below : (b : List ℕ) → Bytes b → WholeGroups (length b) → Foldable (total (groupsOf b))
 groups-below b all whole = omega (arith, whole .1, groups-most b all)
 
--- and three folds of it give a word: the first leaves less than 2^30 + 2^16, the second less than 2^14 + 2^16 + 1
+-- and three folds of it give a word
 pub folds-fit : (s : ℕ) → Foldable s → carried (carried (carried s)) < 65536
 folds-fit s h = third (carried (carried s)) (second (carried s) (omega arith))
   where
-    second : (t : ℕ) → t < 1073807360 → carried t < 81921
+    second : (t : ℕ) → t < 2 ^ 30 + 2 ^ 16 → carried t < 2 ^ 14 + 2 ^ 16 + 1
     second t l = omega arith
 
-    third : (t : ℕ) → t < 81921 → carried t < 65536
+    third : (t : ℕ) → t < 2 ^ 14 + 2 ^ 16 + 1 → carried t < 65536
     third t l = omega arith
 
 folded-reduced : (s : ℕ) → Foldable s → folded s ≡ reduced s

@@ -1,6 +1,6 @@
 -- One's complement arithmetic on 16-bit words: RFC 1071's sum, the same by groups of four bytes, and RFC 1624's edit. Assumes nothing: these are
 -- definitions.
-use Prim.Native.Nat.{ℕ, _+_, _-_, _*_, _/_, _%_, _≤_, _<_}
+use Prim.Native.Nat.{ℕ, _+_, _-_, _*_, _^_, _/_, _%_, _≤_, _<_}
 use mathlib.Core.Path.{_≡_}
 use mathlib.Core.List.{List, [], _∷_}
 use mathlib.Core.Bool.{Bool}
@@ -73,7 +73,7 @@ total (n ∷ ns) = n + total ns
 
 -- below 2^46, as the sum of 16,383 groups is
 abbrev pub Foldable : ℕ → Type 0
-Foldable s = s < 70368744177664
+Foldable s = s < 2 ^ 46
 
 -- such a sum as a word: the carries out of bit 15 added back, three times over
 unfoldable pub folded : ℕ → ℕ
