@@ -5,7 +5,7 @@ use Prim.Native.Nat.{ℕ, zero, suc, _+_, _-_, _*_, _^_, _/_, _%_, _≤_, _<_}
 use native.Mathlib.Nat.{suc-add, add-suc}
 use native.Mathlib.Numerals.{add-one, add-two, add-three, add-four}
 use native.Mathlib.Omega.{arith}
-use lib.ListN.{length, take, drop, drop-of-length-le}
+use lib.ListN.{length, take, drop}
 use lib.Seq.{drop-cons, length-take-le}
 use Rattle.lists.proofs.Below.{below-tail, below-take}
 use Rattle.checksum.specs.Ones.{Bytes, carried, wordsOf, sumFrom, onesSum, groupsOf, groupAt, WholeGroups, total, Foldable, folded}
@@ -91,10 +91,6 @@ groups-more b i room =
 pub groups-next : (b : List ℕ) (i sum : ℕ) → i + 3 < length b → sum + total (groupsOf (drop i b)) ≡ total (groupsOf b)
     → sum + groupAt b i + total (groupsOf (drop (i + 4) b)) ≡ total (groupsOf b)
 groups-next b i sum room e = omega (arith, rw (groups-more b i room) at e)
-
--- no byte from a place on: no group
-pub groups-none : (b : List ℕ) (i : ℕ) → length b ≤ i → groupsOf (drop i b) ≡ []
-groups-none b i l = rw (drop-of-length-le b l)
 
 -- words added to a sum: those of the bytes before an even place, and then those after it
 cut-sum : (k s : ℕ) (b : List ℕ) → sumFrom (sumFrom s (wordsOf (take (k + k) b))) (wordsOf (drop (k + k) b)) ≡ sumFrom s (wordsOf b)

@@ -4,9 +4,9 @@ use borrow.Author.Needs.{needs}
 use native.Mathlib.Omega.{arith}
 use mathlib.Core.Path.{_≡_, refl}
 use Prim.Native.Nat.{ℕ, _+_, _-_, _%_, _≤_}
-use lib.ListN.{length, drop}
+use lib.ListN.{length, drop, drop-of-length-le}
 use Rattle.checksum.specs.Ones.{Bytes, groupsOf, total}
-use Rattle.checksum.proofs.Grouping.{groups-below, group-room, groups-next, groups-none}
+use Rattle.checksum.proofs.Grouping.{groups-below, group-room, groups-next}
 use Rattle.checksum.proofs.groups_sum.Statement.{statement}
 use Rattle.checksum.proofs.groups_sum.Tie as tie
 
@@ -37,7 +37,7 @@ loop-again c =
     (omega (arith, room), omega (arith, at-loop .inv .1), rw (c .group-at .ensures) (groups-next _ _ _ room (at-loop .inv .2)))
 
 returns : tie.Need-returns Inv-loop μ-loop
-returns c = omega (arith, rw (groups-none _ _ (c .loop-test .left)) at (c .before .loop .inv .2))
+returns c = omega (arith, rw (drop-of-length-le _ (c .loop-test .left)) at (c .before .loop .inv .2))
 
 pub groups-sum-spec : {M : Type 1} → statement M
 groups-sum-spec =
