@@ -83,7 +83,8 @@ int main(void) {
     NidhaagufServers servers = {{{SERVER, 6432, 1, 0}}};
     state = nidhaaguf_set_up(state, service, servers, row, WORDS).state;
 
-    /* two clients, answers to one of them, a third client that finds no room, and bytes that are no packet */
+    /* two clients, answers to one of them, a third client that finds no room, bytes that are no packet, and a packet of
+       which a bit of the header was turned on its way */
     from_client(40001, SYN);
     from_client(40002, SYN);
     from_server(40001, SYN | ACK);
@@ -91,6 +92,8 @@ int main(void) {
     from_client(40001, ACK);
     memset(packets + taken * NIDHAAGUF_PLACE, 0xFF, SEGMENT_LENGTH);
     records[taken++].length = SEGMENT_LENGTH;
+    from_client(40001, ACK);
+    packets[(taken - 1) * NIDHAAGUF_PLACE + 8] ^= 1;
     direct(10);
 
     /* the first client finishes, both ways, and comes back with the same port; the second resets */

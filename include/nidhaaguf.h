@@ -30,7 +30,7 @@
  *
  * What the caller owes, in every call:
  * - What is lent is there: `row` points to `row_length` words, `packet` to `packet_length` bytes, and so on; a serve's
- *   `counters` to 36 numbers of 64 bits. Nothing else writes there during the call, and no two of them overlap. A length
+ *   `counters` to 46 numbers of 64 bits. Nothing else writes there during the call, and no two of them overlap. A length
  *   of 0 still takes a pointer that is not null and is aligned.
  * Nothing else: the state, the row, the packets and the other arguments may hold anything, and every call then ends with
  * the answer that its rules give (15, where the state and the row don't fit together). What a serve waits for is said there.
@@ -118,10 +118,11 @@ typedef struct {
 /*
  * A serve's counters: first those of inbound packets, then those of outbound ones. NIDHAAGUF_COUNTER tells a counter's place:
  * way 0 inbound, 1 outbound; refusal and change as an answer has them. counters[NIDHAAGUF_COUNTER(1, 12, 0)] counts the
- * outbound packets that were refused with 12, counters[NIDHAAGUF_COUNTER(0, 0, NIDHAAGUF_OPENED)] the openings.
+ * outbound packets that were refused with 12, counters[NIDHAAGUF_COUNTER(0, 0, NIDHAAGUF_OPENED)] the openings. Refusals go by
+ * their number, up to 20: the counters of numbers that no packet is refused with stay as they are.
  */
-#define NIDHAAGUF_COUNTERS 36
-#define NIDHAAGUF_COUNTER(way, refusal, change) (18 * (way) + ((refusal) != 0 ? 2 + (refusal) : (change) - 1))
+#define NIDHAAGUF_COUNTERS 46
+#define NIDHAAGUF_COUNTER(way, refusal, change) (23 * (way) + ((refusal) != 0 ? 2 + (refusal) : (change) - 1))
 
 /* What a serve gives back. */
 typedef struct {
@@ -155,9 +156,9 @@ enum NidhaagufScheduler {
 };
 
 /*
- * NidhaagufAnswer.refusal (SCOPE section 4). Refusals 1 to 11 and 15 change nothing: the state comes back as it was
+ * NidhaagufAnswer.refusal (SCOPE section 4). Refusals 1 to 11, 15 and 20 change nothing: the state comes back as it was
  * handed in, in every field, and row and packet are as they were (SCOPE 5.3). 12, 13 and 14 store the clock and remove
- * idle connections, and change nothing else (SCOPE 5.4).
+ * idle connections, and change nothing else (SCOPE 5.4). 16 to 19 are not given.
  */
 enum NidhaagufRefusal {
     NIDHAAGUF_ACCEPTED = 0,
@@ -166,7 +167,7 @@ enum NidhaagufRefusal {
     NIDHAAGUF_SERVER_UNSET = 3,         /* setup: a server's address or port is 0 */
     NIDHAAGUF_SERVER_REPEATED = 4,      /* setup: two servers with equal address and port */
     NIDHAAGUF_NO_SERVER = 5,            /* weight, count: no server of that number */
-    NIDHAAGUF_MALFORMED_HEADER = 6,     /* packet: the IPv4 header's lengths, version or checksum */
+    NIDHAAGUF_MALFORMED_HEADER = 6,     /* packet: the IPv4 header's lengths or version */
     NIDHAAGUF_FRAGMENT = 7,             /* packet: a fragment */
     NIDHAAGUF_OTHER_PROTOCOL = 8,       /* packet: not the service's protocol */
     NIDHAAGUF_MALFORMED_TRANSPORT = 9,  /* packet: the TCP or UDP header's lengths */
@@ -175,7 +176,8 @@ enum NidhaagufRefusal {
     NIDHAAGUF_NO_CONNECTION = 12,       /* packet: it belongs to no connection and opens none */
     NIDHAAGUF_TABLE_FULL = 13,          /* packet: it would open a connection, and the row has no room */
     NIDHAAGUF_NO_WEIGHT = 14,           /* packet: it would open a connection, and every weight is 0 */
-    NIDHAAGUF_UNSOUND = 15              /* all but setup: state and row are not what the calls have made */
+    NIDHAAGUF_UNSOUND = 15,             /* all but setup: state and row are not what the calls have made */
+    NIDHAAGUF_BAD_CHECKSUM = 20         /* packet: the IPv4 header's checksum, tested after 6 and before 7 */
 };
 
 /* NidhaagufAnswer.change (SCOPE 7.9) */
@@ -216,14 +218,14 @@ NidhaagufAnswer nidhaaguf_tick(NidhaagufState state, uint32_t *row, size_t row_l
  * is to be sent there; `change` says what became of its connection. Refused, the packet is as it was.
  * A TCP SYN without ACK, RST and FIN opens a connection, also where its client has one that both sides have finished: that
  * one ends in the same call (SCOPE 8.16). On any other connection it is a packet like others (SCOPE 8.11).
- * Refusals 15, 6 to 14.
+ * Refusals 15, 6, 20, 7 to 14, in that order (SCOPE 5.1).
  */
 NidhaagufAnswer nidhaaguf_inbound(NidhaagufState state, uint32_t *row, size_t row_length,
                                   uint8_t *packet, size_t packet_length, uint32_t clock);
 
 /*
  * Takes a packet from a server, likewise: accepted, it is rewritten to come from the virtual address and port, and is to
- * be sent to its client. It opens no connection. Refusals 15, 6 to 12.
+ * be sent to its client. It opens no connection. Refusals 15, 6, 20, 7 to 12.
  */
 NidhaagufAnswer nidhaaguf_outbound(NidhaagufState state, uint32_t *row, size_t row_length,
                                    uint8_t *packet, size_t packet_length, uint32_t clock);
@@ -251,7 +253,7 @@ NidhaagufAnswer nidhaaguf_burst(NidhaagufState state, uint32_t *row, size_t row_
 /*
  * A tick at `clock`, then packets as they come: read from `descriptor` into `buffer`, taken as nidhaaguf_inbound or
  * nidhaaguf_outbound takes them at that clock (which of the two, as for a burst), and written back to it where they are
- * accepted; until a read gives nothing or `most` packets are taken. Each answer adds 1 to one of the 36 counters.
+ * accepted; until a read gives nothing or `most` packets are taken. Each answer adds 1 to one of the 46 counters.
  *
  * - The descriptor: one read gives one packet, from the first byte of its IPv4 header on, and one write takes one. A TUN
  *   device without packet information (IFF_NO_PI) does so, and a datagram socket. A packet longer than the buffer is cut by
@@ -266,7 +268,7 @@ NidhaagufAnswer nidhaaguf_burst(NidhaagufState state, uint32_t *row, size_t row_
  * A refused tick reads nothing and changes nothing: the state comes back as it came. Refusals 15, 11.
  */
 NidhaagufServed nidhaaguf_serve(int32_t descriptor, NidhaagufState state, uint32_t *row, size_t row_length,
-                                uint8_t *buffer, size_t buffer_length, uint64_t *counters /* 36 */,
+                                uint8_t *buffer, size_t buffer_length, uint64_t *counters /* 46 */,
                                 uint32_t clock, uint32_t most);
 
 #ifdef __cplusplus

@@ -136,6 +136,7 @@ demand1 s c fits = record {
   exactly = exactly s c;
   to11 = λ n low high e. unchanged n low (λ q. omega arith, λ q. omega arith, λ q. omega arith) e;
   at15 = λ e. unchanged 15 (omega arith) (λ q. omega arith, λ q. omega arith, λ q. omega arith) e;
+  at20 = λ e. unchanged 20 (omega arith) (λ q. omega arith, λ q. omega arith, λ q. omega arith) e;
   to14 = λ n low high e. left-settled s c (record { low = omega arith; high = omega arith });
 }
   where

@@ -15,7 +15,7 @@ use Rattle.packet.specs.declared.read.Reading.{Reading}
 use Rattle.packet.specs.declared.read.Transport.{Transport}
 use Rattle.checksum.specs.Ones.{wordAt}
 use Rattle.packet.specs.Bytes.{addressAt, payload}
-use Rattle.packet.specs.Reading.{broken, fragment, tcpMalformed, udpMalformed, flagsOf, noFlags, headerOf, portsOf, packetWith, readTransport, withTransport, readPayload, onHeader, readPacket}
+use Rattle.packet.specs.Reading.{broken, headerVerifies, fragment, tcpMalformed, udpMalformed, flagsOf, noFlags, headerOf, portsOf, packetWith, readTransport, withTransport, readPayload, onHeader, readPacket}
 use Rattle.servers.specs.declared.Server.{Server}
 use Rattle.servers.specs.declared.ServerNo.{ServerNo}
 use Rattle.servers.specs.declared.Found.{Found}
@@ -283,17 +283,18 @@ module _ (way : Way) (d : Director) (row p : List ℕ) (now : ℕ) (sound : soun
   on-own false = refl
   on-own true = on-transport
 
-  -- 6 and 7
-  on-header : (a b : Bool)
-      → let s = onReading way g (d .servers) (onHeader (g .protocol) p (cond a (HeaderReading.Refused Fault.MalformedHeader) (cond b (HeaderReading.Refused Fault.Fragment) (HeaderReading.Read (headerOf p))))) in
-      number s ≡ cond a 6 (cond b 7 (cond (not (eqb (getD p 9 0) (g .protocol))) 8 (cond (transportMalformed (g .protocol) (payload p)) 9 (past9 s))))
-  on-header true b = refl
-  on-header false true = refl
-  on-header false false = on-own (eqb (getD p 9 0) (g .protocol))
+  -- 6, 20 and 7
+  on-header : (a v b : Bool)
+      → let s = onReading way g (d .servers) (onHeader (g .protocol) p (cond a (HeaderReading.Refused Fault.MalformedHeader) (cond (not v) (HeaderReading.Refused Fault.BadChecksum) (cond b (HeaderReading.Refused Fault.Fragment) (HeaderReading.Read (headerOf p)))))) in
+      number s ≡ cond a 6 (cond (not v) 20 (cond b 7 (cond (not (eqb (getD p 9 0) (g .protocol))) 8 (cond (transportMalformed (g .protocol) (payload p)) 9 (past9 s)))))
+  on-header true v b = refl
+  on-header false false b = refl
+  on-header false true true = refl
+  on-header false true false = on-own (eqb (getD p 9 0) (g .protocol))
 
   sound-exactly : numberGiven (packetOf way d row p now .answer) ≡ lowestFailing (packetTests way d row p now)
   unfolding packetOf packetHeld segmentRead readPacket
-  sound-exactly = rw sound (on-header (broken p) (fragment p))
+  sound-exactly = rw sound (on-header (broken p) (headerVerifies p) (fragment p))
 
 packet-exactly : (way : Way) (d : Director) (row p : List ℕ) (now : ℕ)
     → numberGiven (packetOf way d row p now .answer) ≡ lowestFailing (packetTests way d row p now)

@@ -1,6 +1,6 @@
 -- What is said of every refusal, by the list of them; and the book's list of numbers that keep the clock says what the director's refusals do.
 -- Assumes nothing.
-use Prim.Native.Nat.{ℕ, zero, suc, _-_}
+use Prim.Native.Nat.{ℕ, zero, suc}
 use mathlib.Core.Bool.{true, false, true≢false}
 use mathlib.Core.List.{List, [], _∷_, map}
 use mathlib.Core.Logic.{⊎-elim}
@@ -24,11 +24,11 @@ getD-map f (x ∷ l) (suc k) d = getD-map f l k d
 -- what two functions say alike of the listed refusals they say alike of each: the list names every one
 pub each-refusal : {A : Type 0} (f g : Refusal → A) → map f refusals ≡ map g refusals → (why : Refusal) → f why ≡ g why
 each-refusal f g same why =
-    let k = refusalNumber why - 1 in
+    let (k, named) = laws .all-named why in
     let first : f Refusal.Size ≡ g Refusal.Size = ap (λ (l : List _). getD l 0 (f Refusal.Size)) same in
     let listed : f (getD refusals k Refusal.Size) ≡ g (getD refusals k Refusal.Size) =
     sym (getD-map f refusals k Refusal.Size) ∙ ap (λ (l : List _). getD l k (f Refusal.Size)) same ∙ ap (getD (map g refusals) k) first ∙ getD-map g refusals k Refusal.Size in
-    subst (λ (x : Refusal). f x ≡ g x) (laws .all-named why) listed
+    subst (λ (x : Refusal). f x ≡ g x) named listed
 
 pub numbers-agree : (why : Refusal) → numberKeepsClock (refusalNumber why) ≡ keepsClock why
 numbers-agree = each-refusal (λ why. numberKeepsClock (refusalNumber why)) keepsClock refl

@@ -25,6 +25,7 @@ refusals = record {
   number = refl;
   header = refl;
   length = refl;
+  checksum = refl;
   fragment = refl;
   protocol = refl;
   transport = refl;

@@ -97,14 +97,14 @@ mine m e = ofClient (m .address) (m .port) e && belongs (m .sender) (record { 0 
 abbrev pub isStray : Book → Segment → Bool
 isStray b m = eqb (countOf (mine m) (b .entries)) 0 && not (opens (b .service .protocol) m)
 
--- of a packet call where 6 to 10 are passed. "Where the order comes to them, 11 and 12 fall exactly where the table puts them, read with the
+-- of a packet call where 6 to 10 and 20 are passed. "Where the order comes to them, 11 and 12 fall exactly where the table puts them, read with the
 -- book's clock and, once the idle ones are struck, its entries." (SCOPE 9.16)
 pub record SegmentClaim (way : Way) (b : Book) (p : List ℕ) (now : ℕ) (m : Segment) (r : Result) : Type 0 where
   pub earlier : refused 11 (r .answer) ≡ ltb now (b .clock)
   pub stray : ltb now (b .clock) ≡ false → refused 12 (r .answer) ≡ isStray (struck b now) m
   pub passed : Passed way (struck b now) m p (r .answer) (r .lent .packet)
 
--- a packet that 6 to 10 refuse gets that refusal, and leaves as it came
+-- a packet that one of 6 to 10 and 20 refuses gets that refusal, and leaves as it came
 abbrev pub PacketClaim : Way → Book → List ℕ → ℕ → Result → Seen → Type 0
 PacketClaim way b p now r (Seen.Refused why) = (r .answer ≡ Answer.Refused why) × (r .lent .packet ≡ p)
 PacketClaim way b p now r (Seen.Segment m) = SegmentClaim way b p now m r

@@ -8,7 +8,7 @@ use lib.Dec.{eqb, ltb}
 use lib.ListN.{getD}
 use Rattle.checksum.specs.Ones.{wordAt}
 use Rattle.packet.specs.Bytes.{addressAt, payload}
-use Rattle.packet.specs.Reading.{broken, fragment, tcpMalformed, udpMalformed}
+use Rattle.packet.specs.Reading.{broken, headerVerifies, fragment, tcpMalformed, udpMalformed}
 use Rattle.servers.specs.declared.Server.{Server}
 use Rattle.servers.specs.declared.rules.Rule.{Rule}
 use Rattle.servers.specs.Rules.{allKeep, isNobody, numberOf}
@@ -92,16 +92,17 @@ routeTests d l m =
     ∷ given 14 ((wouldOpen || isRenewal l m client) && noWeight (d .servers) (d .service .servers))
     ∷ []
 
--- a packet that 6 to 10 refuse says nothing of a connection
+-- a packet that one of 6 to 10 and 20 refuses says nothing of a connection
 abbrev pub seenTests : Director → List Slot → Seen → List Test
 seenTests d l (Seen.Refused why) = []
 seenTests d l (Seen.Segment m) = routeTests d l m
 
--- "Packets 15, 6 to 11, then 12 to 14." (SCOPE 5.1)
+-- "Packets 15, 6, 20, 7 to 11, then 12 to 14." (SCOPE 5.1)
 abbrev pub packetTests : Way → Director → List ℕ → List ℕ → ℕ → List Test
 packetTests way d row p now =
     given 15 (not (soundOf d row))
     ∷ given 6 (broken p)
+    ∷ given 20 (not (headerVerifies p))
     ∷ given 7 (fragment p)
     ∷ given 8 (not (eqb (getD p 9 0) (d .service .protocol)))
     ∷ given 9 (transportMalformed (d .service .protocol) (payload p))
@@ -148,9 +149,10 @@ LeftSettled s (packet way p now) r = Left (settledAt s now) p r
 pub record RefusalClaim (s : State) (c : Call) (r : Result) : Type 0 where
   -- each refusal in exactly its case (SCOPE section 4), in the order of SCOPE 5.1; 0: accepted exactly where no test fails
   pub exactly : numberGiven (r .answer) ≡ lowestFailing (tests s c)
-  -- "Numbers 1 to 11 and 15 change nothing, the clock included." (SCOPE 5.3)
+  -- "Numbers 1 to 11, 15 and 20 change nothing, the clock included." (SCOPE 5.3)
   pub to11 : (n : ℕ) → 1 ≤ n → n ≤ 11 → numberGiven (r .answer) ≡ n → Left s (packetIn c) r
   pub at15 : numberGiven (r .answer) ≡ 15 → Left s (packetIn c) r
+  pub at20 : numberGiven (r .answer) ≡ 20 → Left s (packetIn c) r
   -- "12, 13 and 14 keep that and change nothing else" (SCOPE 5.4)
   pub to14 : (n : ℕ) → 12 ≤ n → n ≤ 14 → numberGiven (r .answer) ≡ n → LeftSettled s c r
 

@@ -1,4 +1,4 @@
--- Refusals 6 to 10, of packets, in calls that are one number apart (SCOPE 4.6 to 4.10). Header checksums are right but where they are the reason, and
+-- Refusals 6 to 10 and 20, of packets, in calls that are one number apart (SCOPE 4.6 to 4.10, 4.20). Header checksums are right but where they are the reason, and
 -- no packet has two reasons but where a comment says so. Assumes nothing: these are definitions.
 use Prim.Native.Nat.{ℕ}
 use mathlib.Core.List.{List, [], _∷_, _++_}
@@ -6,7 +6,7 @@ use lib.ListN.{take}
 use Rattle.director.specs.declared.state.Way.{Way}
 use Rattle.audit.specs.Calls.{packet}
 use Rattle.audit.specs.Cases.{Case, each, refusal}
-use Rattle.audit.specs.Samples.{oneConnection, bytes, ports, tcp, tcpPacket, ack}
+use Rattle.audit.specs.Samples.{oneConnection, bytes, ports, tcp, tcpPacket, udpPacket, ack}
 
 -- a packet call where its client has a connection, with server 0
 abbrev pub inboundRefusal : (protocol : ℕ) → List ℕ → ℕ
@@ -46,7 +46,7 @@ headerCases =
     ∷ [])
     ∷ []
 
--- "total length below header length or above the bytes given; header checksum not valid" (SCOPE 4.6)
+-- "total length below header length or above the bytes given" (SCOPE 4.6)
 abbrev pub lengthCases : List Case
 lengthCases =
     -- a header of 20 bytes with total length 19, 20; of 24 with 23, 24
@@ -62,14 +62,46 @@ lengthCases =
     ∷ (plain 0x45000029 0x00004000 0x40066EC4 ++ (0 ∷ []), 0)
     ∷ (plain 0x45000028 0x00004000 0x40066EC5 ++ (0 ∷ []), 0)
     ∷ [])
-    -- the checksum is one less, right, one more; with options right, and as it would be without them
-    ∷ each (inboundRefusal 6)
-    ((plain 0x45000028 0x00004000 0x40066EC4, 6)
+    ∷ []
+
+-- "header checksum not valid" (SCOPE 4.20)
+abbrev pub checksumCases : List Case
+checksumCases =
+    -- one less, right, one more; with options right, and as it would be without them
+    each (inboundRefusal 6)
+    ((plain 0x45000028 0x00004000 0x40066EC4, 20)
     ∷ (plain 0x45000028 0x00004000 0x40066EC5, 0)
-    ∷ (plain 0x45000028 0x00004000 0x40066EC6, 6)
+    ∷ (plain 0x45000028 0x00004000 0x40066EC6, 20)
     ∷ (optioned 0x4600002C 0x00004000 0x40066BBF, 0)
-    ∷ (optioned 0x4600002C 0x00004000 0x40066DC1, 6)
+    ∷ (optioned 0x4600002C 0x00004000 0x40066DC1, 20)
     ∷ [])
+    -- where the other words sum to FFFF: 0000, FFFF in its place, which verifies too, and 0001
+    ∷ each (inboundRefusal 6)
+    ((plain 0x45000028 0x6EC54000 0x40060000, 0) ∷ (plain 0x45000028 0x6EC54000 0x4006FFFF, 0) ∷ (plain 0x45000028 0x6EC54000 0x40060001, 20) ∷ [])
+    -- wrong, with a second reason: 19 bytes, version 6, header length word 4, total length 19, 41 in 40 bytes are told before it
+    ∷ each (inboundRefusal 6)
+    ((take 19 (plain 0x45000014 0x00004000 0x40066ED8), 6)
+    ∷ (plain 0x65000028 0x00004000 0x40064EC4, 6)
+    ∷ (plain 0x44000028 0x00004000 0x400631CF, 6)
+    ∷ (plain 0x45000013 0x00004000 0x40066ED9, 6)
+    ∷ (plain 0x45000029 0x00004000 0x40066EC3, 6)
+    ∷ [])
+    -- a fragment, another protocol, a payload of 19 bytes and another port after it: the sum wrong, and right
+    ∷ each (inboundRefusal 6)
+    ((plain 0x45000028 0x00002000 0x40068EC4, 20)
+    ∷ (plain 0x45000028 0x00002000 0x40068EC5, 7)
+    ∷ (plain 0x45000028 0x00004000 0x40116EB9, 20)
+    ∷ (plain 0x45000028 0x00004000 0x40116EBA, 8)
+    ∷ (plain 0x45000027 0x00004000 0x40066EC5, 20)
+    ∷ (plain 0x45000027 0x00004000 0x40066EC6, 9)
+    ∷ (tcpPacket 0x6EC4 0x0A000001 0xC000020A (ports 40000 5433) ack, 20)
+    ∷ (tcpPacket 0x6EC5 0x0A000001 0xC000020A (ports 40000 5433) ack, 10)
+    ∷ [])
+    -- outbound, and in UDP
+    ∷ each (outboundRefusal 6)
+    ((tcpPacket 0x26C9 0x0A010005 0x0A000001 (ports 6432 40000) ack, 20) ∷ (tcpPacket 0x26CA 0x0A010005 0x0A000001 (ports 6432 40000) ack, 0) ∷ [])
+    ∷ each (inboundRefusal 17)
+    ((udpPacket 0x6EC5 0x0A000001 0xC000020A (ports 40000 5432), 20) ∷ (udpPacket 0x6EC6 0x0A000001 0xC000020A (ports 40000 5432), 0) ∷ [])
     ∷ []
 
 -- "more-fragments set, or fragment offset not 0" (SCOPE 4.7): more-fragments is 2000, don't-fragment 4000, a reserved bit 8000 (RFC 791)

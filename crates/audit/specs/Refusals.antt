@@ -2,7 +2,7 @@
 -- is accepted. Assumes nothing: these are definitions.
 use Rattle.audit.specs.Cases.{Hold}
 use Rattle.audit.specs.SetupCases.{setupCases}
-use Rattle.audit.specs.PacketCases.{headerCases, lengthCases, fragmentCases, protocolCases, transportCases, endpointCases}
+use Rattle.audit.specs.PacketCases.{headerCases, lengthCases, checksumCases, fragmentCases, protocolCases, transportCases, endpointCases}
 use Rattle.audit.specs.ConnectionCases.{numberCases, clockCases, openingCases, belongingCases, idleCases, fullCases, weightCases}
 use Rattle.audit.specs.SoundnessCases.{settingsCases, slotCases, walkCases, callCases}
 use Rattle.audit.specs.OrderCases.{setupOrderCases, callOrderCases}
@@ -16,6 +16,8 @@ pub record Refusals : Type 0 where
   -- 6
   pub header : Hold headerCases
   pub length : Hold lengthCases
+  -- 20
+  pub checksum : Hold checksumCases
   -- 7
   pub fragment : Hold fragmentCases
   -- 8

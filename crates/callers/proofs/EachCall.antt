@@ -27,6 +27,7 @@ demand1-seen h c fits = record {
   claim = subst (RefusalClaim (decodedState h) c) (sym (seen-called h c fits)) (demand1 (decodedState h) c fits);
   to11 = λ n low high e. same n low (λ q. omega arith, λ q. omega arith, λ q. omega arith) e;
   at15 = λ e. same 15 (omega arith) (λ q. omega arith, λ q. omega arith, λ q. omega arith) e;
+  at20 = λ e. same 20 (omega arith) (λ q. omega arith, λ q. omega arith, λ q. omega arith) e;
 }
   where
     same : (n : ℕ) → 1 ≤ n → Other n → replyTo h c .reply .refusal ≡ n → replyTo h c .reply .state ≡ h .state

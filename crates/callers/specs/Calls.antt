@@ -57,7 +57,8 @@ refusalOf n =
     (cond (eqb n 11) Refusal.EarlierClock
     (cond (eqb n 12) Refusal.NoConnection
     (cond (eqb n 13) Refusal.TableFull
-    (cond (eqb n 14) Refusal.NoWeight Refusal.Unsound)))))))))))))
+    (cond (eqb n 14) Refusal.NoWeight
+    (cond (eqb n 20) (Refusal.Packet Fault.BadChecksum) Refusal.Unsound))))))))))))))
 
 -- `number` and `change`, where `refusal` is 0, by the call that is answered
 abbrev pub acceptedBy : Call → (number change : ℕ) → Answer

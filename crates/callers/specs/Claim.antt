@@ -21,9 +21,10 @@ use Rattle.callers.specs.Calls.{Handed, decodedState, replyTo, afterCall
 -- Demand 1, of a call: which `refusal` it gives, exactly, and what a refused call leaves
 pub record Refusals (h : Handed) (c : Call) : Type 0 where
   pub claim : RefusalClaim (decodedState h) c (seen h c)
-  -- "Numbers 1 to 11 and 15 change nothing, the clock included." (SCOPE 5.3): the struct comes back as it was, in every field
+  -- "Numbers 1 to 11, 15 and 20 change nothing, the clock included." (SCOPE 5.3): the struct comes back as it was, in every field
   pub to11 : (n : ℕ) → 1 ≤ n → n ≤ 11 → replyTo h c .reply .refusal ≡ n → replyTo h c .reply .state ≡ h .state
   pub at15 : replyTo h c .reply .refusal ≡ 15 → replyTo h c .reply .state ≡ h .state
+  pub at20 : replyTo h c .reply .refusal ≡ 20 → replyTo h c .reply .state ≡ h .state
 
 abbrev pub Demand1 : Type 0
 Demand1 = (h : Handed) (c : Call) → Fits c → Refusals h c

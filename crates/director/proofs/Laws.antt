@@ -36,22 +36,23 @@ finished m phase client e =
     let (last, syn) = both (eqb phase 4) (opens 6 m) e in
     (eqb-true _ _ last, alone (m .flags .syn) (m .flags .ack) (m .flags .rst) (m .flags .fin) (rw client at syn))
 
-named : (why : Refusal) → getD refusals (refusalNumber why - 1) Refusal.Size ≡ why
-named Refusal.Size = refl
-named Refusal.Service = refl
-named Refusal.ServerUnset = refl
-named Refusal.ServerRepeated = refl
-named Refusal.NoServer = refl
-named (Refusal.Packet Fault.MalformedHeader) = refl
-named (Refusal.Packet Fault.Fragment) = refl
-named (Refusal.Packet Fault.OtherProtocol) = refl
-named (Refusal.Packet Fault.MalformedTransport) = refl
-named Refusal.OtherEndpoint = refl
-named Refusal.EarlierClock = refl
-named Refusal.NoConnection = refl
-named Refusal.TableFull = refl
-named Refusal.NoWeight = refl
-named Refusal.Unsound = refl
+named : (why : Refusal) → (k : ℕ) × (getD refusals k Refusal.Size ≡ why)
+named Refusal.Size = (0, refl)
+named Refusal.Service = (1, refl)
+named Refusal.ServerUnset = (2, refl)
+named Refusal.ServerRepeated = (3, refl)
+named Refusal.NoServer = (4, refl)
+named (Refusal.Packet Fault.MalformedHeader) = (5, refl)
+named (Refusal.Packet Fault.Fragment) = (6, refl)
+named (Refusal.Packet Fault.OtherProtocol) = (7, refl)
+named (Refusal.Packet Fault.MalformedTransport) = (8, refl)
+named Refusal.OtherEndpoint = (9, refl)
+named Refusal.EarlierClock = (10, refl)
+named Refusal.NoConnection = (11, refl)
+named Refusal.TableFull = (12, refl)
+named Refusal.NoWeight = (13, refl)
+named Refusal.Unsound = (14, refl)
+named (Refusal.Packet Fault.BadChecksum) = (15, refl)
 
 pub laws : Laws
 unfolding keep

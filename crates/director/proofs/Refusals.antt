@@ -47,14 +47,15 @@ settings-early g given row =
     (λ _. record { back = refl; not15 = refl }))
     (λ _. record { back = refl; not15 = refl })
 
--- 6 to 9
+-- 6, 20, 7, 8, 9
 fault-early : (fault : Fault) → Early (Refusal.Packet fault)
 fault-early Fault.MalformedHeader = record { back = refl; not15 = refl }
+fault-early Fault.BadChecksum = record { back = refl; not15 = refl }
 fault-early Fault.Fragment = record { back = refl; not15 = refl }
 fault-early Fault.OtherProtocol = record { back = refl; not15 = refl }
 fault-early Fault.MalformedTransport = record { back = refl; not15 = refl }
 
--- 6 to 10: what refuses a packet's reading
+-- 6 to 10 and 20: what refuses a packet's reading
 pub read-early : (way : Way) (g : Service) (servers : List Server) (p : List ℕ) → EarlySeen (segmentRead way g servers p)
 unfolding segmentRead
 read-early way g servers p = by-reading way (readPacket (g .protocol) p)

@@ -35,7 +35,7 @@ use Rattle.director.proofs.Idle.{settled-same, settled-none-idle, carri
 
 -- 1. A packet at the clock of a current state
 
--- 6 to 10 as the reading has them, then 12 to 14: the clock is the stored one, and nothing is removed
+-- 6 to 10 and 20 as the reading has them, then 12 to 14: the clock is the stored one, and nothing is removed
 abbrev pub onSeenNow : Director → Lent (List Slot) → Seen → Held
 onSeenNow d x (Seen.Refused why) = refusal why d x
 onSeenNow d x (Seen.Segment m) = routed d x m

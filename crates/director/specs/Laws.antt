@@ -1,6 +1,6 @@
 -- What opens and what renews, the phases, the refusals' numbers and, at three places, their order, with SCOPE's values written out: where one of these is wrong
 -- in code and definition alike, a statement here fails. Assumes nothing: these are statements; proofs/Laws.antt proves them (`laws`).
-use Prim.Native.Nat.{ℕ, _-_}
+use Prim.Native.Nat.{ℕ}
 use mathlib.Core.Bool.{Bool, true, false}
 use mathlib.Core.List.{List, [], _∷_, map}
 use mathlib.Core.Logic.{_↔_}
@@ -57,6 +57,7 @@ refusals =
     ∷ Refusal.TableFull
     ∷ Refusal.NoWeight
     ∷ Refusal.Unsound
+    ∷ Refusal.Packet Fault.BadChecksum
     ∷ []
 
 -- given the lowest slot of a packet's client: is it one of a connection that the packet belongs to (SCOPE 4.12)?
@@ -70,7 +71,7 @@ isIts l m (Found.At k) = belongs (m .sender) (getD l (k .0) freeSlot .server)
 abbrev pub UnsoundFirst : Type 0
 UnsoundFirst = (d : Director) (row : List ℕ) (k : ℕ) → soundOf d row ≡ false → numberJudged d row k ≡ Verdict.Refused Refusal.Unsound
 
--- 6 to 10 before 11: a packet that can't be taken, whatever the clock
+-- 6 to 10 and 20 before 11: a packet that can't be taken, whatever the clock
 abbrev pub UnreadFirst : Type 0
 UnreadFirst =
     (way : Way) (d : Director) (x : Lent (List Slot)) (now : ℕ) (why : Refusal)
@@ -101,9 +102,9 @@ pub record Laws : Type 0 where
   pub fin-inbound : phasesBy true Sender.Client ≡ 2 ∷ 2 ∷ 4 ∷ 4 ∷ []
   pub fin-outbound : (i : ServerNo) → phasesBy true (Sender.Server i) ≡ 3 ∷ 4 ∷ 3 ∷ 4 ∷ []
   pub fin-clear : (sender : Sender) → phasesBy false sender ≡ 1 ∷ 2 ∷ 3 ∷ 4 ∷ []
-  -- the list names every refusal, each at the place that its number says
-  pub all-named : (why : Refusal) → getD refusals (refusalNumber why - 1) Refusal.Size ≡ why
-  pub numbers : map refusalNumber refusals ≡ 1 ∷ 2 ∷ 3 ∷ 4 ∷ 5 ∷ 6 ∷ 7 ∷ 8 ∷ 9 ∷ 10 ∷ 11 ∷ 12 ∷ 13 ∷ 14 ∷ 15 ∷ []
+  -- the list names every refusal; 16 to 19 are no refusal's number
+  pub all-named : (why : Refusal) → (k : ℕ) × (getD refusals k Refusal.Size ≡ why)
+  pub numbers : map refusalNumber refusals ≡ 1 ∷ 2 ∷ 3 ∷ 4 ∷ 5 ∷ 6 ∷ 7 ∷ 8 ∷ 9 ∷ 10 ∷ 11 ∷ 12 ∷ 13 ∷ 14 ∷ 15 ∷ 20 ∷ []
   -- "12, 13 and 14 keep that" (SCOPE 5.4): the clock and the idle removal
   pub clock-kept : map refusalNumber (keep keepsClock refusals) ≡ 12 ∷ 13 ∷ 14 ∷ []
   -- the order of refusals

@@ -25,7 +25,7 @@ abbrev pub onClock : Director → Lent (List Slot) → Segment → ℕ → Bool 
 onClock d x m now true = refusal Refusal.EarlierClock d x
 onClock d x m now false = routed (settled d (x .table) now) (settledLent d x now) m
 
--- 6 to 10 as the reading has them
+-- 6 to 10 and 20 as the reading has them
 abbrev pub onSeen : Director → Lent (List Slot) → ℕ → Seen → Held
 onSeen d x now (Seen.Refused why) = refusal why d x
 onSeen d x now (Seen.Segment m) = onClock d x m now (ltb now (d .clock))
@@ -38,6 +38,6 @@ abbrev pub packetOnSound : Way → Director → Lent (List ℕ) → ℕ → Bool
 packetOnSound way d x now true = inWords (packetHeld way d (inSlots x) now)
 packetOnSound way d x now false = refusal Refusal.Unsound d x
 
--- a packet call: "Packets 15, 6 to 11, then 12 to 14." (SCOPE 5.1)
+-- a packet call: "Packets 15, 6, 20, 7 to 11, then 12 to 14." (SCOPE 5.1)
 unfoldable pub packetOf : Way → Director → (row packet : List ℕ) → ℕ → Result
 packetOf way d row packet now = packetOnSound way d (lent row packet) now (soundOf d row)

@@ -1,4 +1,4 @@
--- What a packet says of a connection, and refusals 6 to 10. Assumes nothing: these are definitions.
+-- What a packet says of a connection, and refusals 6, 20, 7 to 10. Assumes nothing: these are definitions.
 use Prim.Native.Nat.{ℕ}
 use mathlib.Core.Bool.{cond, _&&_}
 use mathlib.Core.List.{List}
@@ -38,7 +38,7 @@ abbrev pub onWay : Service → List Server → Packet → Way → Seen
 onWay g servers p Way.Inbound = fromClient g p
 onWay g servers p Way.Outbound = fromServer g servers p
 
--- 6 to 9 as the packet's reading has them, then 10
+-- 6, 20, 7, 8, 9 as the packet's reading has them, then 10
 abbrev pub onReading : Way → Service → List Server → Reading → Seen
 onReading way g servers (Reading.Refused fault) = Seen.Refused (Refusal.Packet fault)
 onReading way g servers (Reading.Taken p) = onWay g servers p way

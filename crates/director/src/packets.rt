@@ -1,4 +1,4 @@
-// The packet calls: 15, 6 to 11, then 12 to 14.
+// The packet calls: 15, 6, 20, 7 to 11, then 12 to 14.
 use crate::carry::carry_out;
 use crate::clock::settle;
 use crate::decide::decide;

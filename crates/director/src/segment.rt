@@ -1,4 +1,4 @@
-// What a packet says of a connection: its client, who sent it, and TCP's flags. Refusals 6 to 10.
+// What a packet says of a connection: its client, who sent it, and TCP's flags. Refusals 6, 20, 7 to 10.
 use crate::state::Director;
 use crate::state::Refusal;
 use crate::state::Service;
@@ -74,7 +74,7 @@ fn from_server(director: Director, p: Packet) -> Seen
     }
 }
 
-// What a packet says, or the first of refusals 6 to 10.
+// What a packet says, or the first of refusals 6, 20, 7 to 10.
 pub fn read_segment(way: Way, director: Director, packet: &[u8]) -> Seen
     requires { ⌜ director .service .servers ≤ 64 ⌝ }
     ensures { λ r. ⌜ r ≡ segmentRead way (director .service) (director .servers) (now (packet .entry)) ⌝ }

@@ -52,7 +52,7 @@ pub enum Refusal {
     ServerRepeated,
     // 5: no server of that number
     NoServer,
-    // 6 to 9: the packet can't be read
+    // 6 to 9 and 20: the packet can't be read
     Packet(Fault),
     // 10: not to the service, or not from a server
     OtherEndpoint,

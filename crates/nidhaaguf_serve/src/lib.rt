@@ -30,7 +30,7 @@ pub extern "C" fn nidhaaguf_serve(
     state: State,
     row: &mut [u32],
     buffer: &mut [u8],
-    counters: &mut [u64; 36],
+    counters: &mut [u64; 46],
     clock: u32,
     most: u32,
 ) -> Served

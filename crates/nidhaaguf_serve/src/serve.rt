@@ -25,7 +25,7 @@ fn take_counted(
     director: Director,
     row: &mut [u32],
     packet: &mut [u8],
-    counters: &mut [u64; 36],
+    counters: &mut [u64; 46],
 ) -> Carried
     requires { ⌜ Current director (now row) ⌝ }
     ensures can { λ r. ⌜ CanShift director (r .shift) ⌝ }
@@ -67,7 +67,7 @@ fn serve_packet(
     director: Director,
     row: &mut [u32],
     packet: &mut [u8],
-    counters: &mut [u64; 36],
+    counters: &mut [u64; 46],
 ) -> Exchange
     requires { ⌜ Current director (now row) ⌝ }
     ensures few { λ r. ⌜ (r .taken ≡ 1) × (r .unsent ≤ 1) ⌝ }
@@ -91,7 +91,7 @@ fn turn(
     director: Director,
     row: &mut [u32],
     buffer: &mut [u8],
-    counters: &mut [u64; 36],
+    counters: &mut [u64; 46],
 ) -> Exchange
     requires { ⌜ Current director (now row) ⌝ }
     ensures few { λ r. ⌜ (r .taken ≤ 1) × (r .unsent ≤ r .taken) ⌝ }
@@ -122,7 +122,7 @@ fn serve_current(
     director: Director,
     row: &mut [u32],
     buffer: &mut [u8],
-    counters: &mut [u64; 36],
+    counters: &mut [u64; 46],
     most: u32,
 ) -> Progress
     requires { ⌜ Current director (now row) ⌝ }
@@ -171,7 +171,7 @@ pub fn serve(
     director: Director,
     row: &mut [u32],
     buffer: &mut [u8],
-    counters: &mut [u64; 36],
+    counters: &mut [u64; 46],
     clock: u32,
     most: u32,
 ) -> Serving

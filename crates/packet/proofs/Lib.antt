@@ -5,6 +5,7 @@ pub mod Written
 pub mod Header
 pub mod Segment
 pub mod Redirected
+pub mod HeaderChecksum
 pub mod Taken
 pub mod Verified
 pub mod Fresh

@@ -13,7 +13,7 @@ use lib.Dec.{eqb}
 use Rattle.lists.proofs.Cases.{truth}
 use Rattle.checksum.specs.Ones.{wordAt}
 use Rattle.packet.specs.Bytes.{addressAt, headerLength, totalLength, payloadLength, payload}
-use Rattle.packet.specs.Reading.{broken, fragment, headerOf, readTransport, withTransport, onHeader, readPacket, Whole}
+use Rattle.packet.specs.Reading.{broken, headerVerifies, fragment, headerOf, readTransport, withTransport, onHeader, readPacket, Whole}
 use Rattle.packet.specs.Redirect.{addressPlace, redirected, Redirectable}
 use Rattle.packet.specs.Laws.{SameUpToTotal, PastTotal}
 use Rattle.packet.specs.declared.read.Fault.{Fault}
@@ -76,8 +76,11 @@ module _ (p p′ : List ℕ) (same : SameUpToTotal p p′) (intact : broken p �
   unbroken =
       let long : 20 ≤ length p = w .long in
       let long′ : 20 ≤ length p′ = omega (arith, w, same .within′) in
-      rw (byte 0 (omega arith), byte 2 (omega arith), byte 3 (omega arith), head, le-ltb (length p′) 20 long′, le-ltb (length p′) (totalLength p) (same .within′))
+      rw (byte 0 (omega arith), byte 2 (omega arith), byte 3 (omega arith), le-ltb (length p′) 20 long′, le-ltb (length p′) (totalLength p) (same .within′))
       (rw (le-ltb (length p) 20 long, le-ltb (length p) (totalLength p) (same .within)) at intact)
+
+  valid-same : headerVerifies p′ ≡ headerVerifies p
+  valid-same = rw (header-same, head)
 
   fragment-same : fragment p′ ≡ fragment p
   unfolding fragment
@@ -97,12 +100,14 @@ module _ (p p′ : List ℕ) (same : SameUpToTotal p p′) (intact : broken p �
 
   read-intact : (protocol : ℕ) → readPacket protocol p′ ≡ readPacket protocol p
   unfolding readPacket
-  read-intact protocol = rw (unbroken, intact, fragment-same, fields-same) (by-fragment (fragment p))
+  read-intact protocol = rw (unbroken, intact, valid-same, fragment-same, fields-same) (by-tests (headerVerifies p) (fragment p))
     where
-      by-fragment : (f : Bool)
-          → let h = cond f (HeaderReading.Refused Fault.Fragment) (HeaderReading.Read (headerOf p)) in onHeader protocol p′ h ≡ onHeader protocol p h
-      by-fragment true = refl
-      by-fragment false =
+      by-tests : (v f : Bool)
+          → let h = cond (not v) (HeaderReading.Refused Fault.BadChecksum) (cond f (HeaderReading.Refused Fault.Fragment) (HeaderReading.Read (headerOf p))) in
+          onHeader protocol p′ h ≡ onHeader protocol p h
+      by-tests false f = refl
+      by-tests true true = refl
+      by-tests true false =
           ap (λ (t : List ℕ). cond (not (eqb (getD p 9 0) protocol)) (Refused Fault.OtherProtocol) (withTransport (headerOf p) (readTransport protocol t))) part
 
   -- both can be redirected

@@ -69,7 +69,7 @@ module _ (protocol : ℕ) (side : Side) (a′ port : ℕ) (p : List ℕ) (r : Pa
       let found = take-word n q 10 (omega arith) in
       let ne : wordAt q 10 ≢ 65535 = rw (redirected-sum protocol side a′ port p can)
       (address-not-ones (wordAt p 10) (addressAt p (addressPlace side)) a′ (word-below p 10 (given .bytes)) (address-below p (addressPlace side) (given .bytes)) some) in
-      let valid = header-exactly ∙ whole p (accepted protocol p r (given .taken) .intact) .valid in
+      let valid = header-exactly ∙ accepted protocol p r (given .taken) .valid in
       sym found ∙ valid-fresh [] (header q) 5 10 refl (rw within (omega arith)) (words-fit (header q) (below-take n bytes-after)) valid (rw found ne)
 
   -- the transport checksum that is written

@@ -2,7 +2,7 @@
 use mathlib.Core.Path.{_≡_, ap, _∙_}
 use mathlib.Core.Logic.{⊎-elim}
 use mathlib.Core.List.{List}
-use mathlib.Core.Bool.{false}
+use mathlib.Core.Bool.{true, false}
 use Prim.Native.Nat.{ℕ, _+_, _≤_, _<_}
 use native.Mathlib.Omega.{arith}
 use lib.ListN.{length, getD}
@@ -18,7 +18,7 @@ use Rattle.packet.specs.declared.read.Reading.the-variants.{Taken}
 use Rattle.packet.specs.declared.redirect.Side.{Side}
 use Rattle.packet.specs.declared.redirect.Side.the-variants.{Source, Destination}
 use Rattle.packet.specs.Bytes.{addressAt, headerLength, totalLength, payload}
-use Rattle.packet.specs.Reading.{broken, fragment, headerOf, flagsOf, noFlags, tcpMalformed, udpMalformed, portsOf, readTransport, packetWith, withTransport, readPacket}
+use Rattle.packet.specs.Reading.{broken, headerVerifies, fragment, headerOf, flagsOf, noFlags, tcpMalformed, udpMalformed, portsOf, readTransport, packetWith, withTransport, readPacket}
 use Rattle.packet.specs.Redirect.{addressPlace, portPlace, sumPlace, transportEdited, redirected, Redirectable}
 use Rattle.packet.specs.Laws.{Given, withPort, withSide}
 use Rattle.packet.proofs.Places.{port-place, sum-place, other, port-apart}
@@ -103,19 +103,22 @@ module _ (protocol : ℕ) (side : Side) (a′ port : ℕ) (p : List ℕ) (r : Pa
   can : Redirectable protocol p
   can = redirectable protocol p r (given .taken)
 
-  -- refusals 6 and 7 do not name it afterwards either
+  -- refusals 6, 20 and 7 do not name it afterwards either
   intact-still : broken q ≡ false
   unfolding broken
   intact-still =
-      let was = accepted protocol p r (given .taken) .intact in
-      let first : 0 < getD p 0 0 = omega (arith, whole p was) in
       rw (
         redirected-length protocol side a′ port p can,
-        header-verifies protocol side a′ port p can (given .bytes) (given .address-fits) (given .port-fits) first,
         first-kept protocol side a′ port p can 0 (lit< tt),
         first-kept protocol side a′ port p can 2 (lit< tt),
         first-kept protocol side a′ port p can 3 (lit< tt),
-      ) was
+      ) (accepted protocol p r (given .taken) .intact)
+
+  valid-still : headerVerifies q ≡ true
+  valid-still =
+      let was = accepted protocol p r (given .taken) in
+      let first : 0 < getD p 0 0 = omega (arith, whole p (was .intact)) in
+      header-verifies protocol side a′ port p can (given .bytes) (given .address-fits) (given .port-fits) first ∙ was .valid
 
   unfragmented-still : fragment q ≡ false
   unfolding fragment
@@ -139,5 +142,5 @@ module _ (protocol : ℕ) (side : Side) (a′ port : ℕ) (p : List ℕ) (r : Pa
       let own = eq-eqb (getD q 9 0) protocol (first-kept protocol side a′ port p can 9 (lit< tt) ∙ was .own) in
       let part = redirected-payload protocol side a′ port p can in
       let read = transport-again protocol side (addressAt p (addressPlace side)) a′ port (payload p) (r .transport) (was .carried) in
-      rw (intact-still, unfragmented-still, own)
+      rw (intact-still, valid-still, unfragmented-still, own)
       (ap (λ (t : List ℕ). withTransport (headerOf q) (readTransport protocol t)) part ∙ ap (withTransport (headerOf q)) read ∙ ap Taken described-again)

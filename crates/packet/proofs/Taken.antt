@@ -1,4 +1,4 @@
--- What is known of a packet that was taken: it passed each of refusals 6 to 9, and it can be redirected.
+-- What is known of a packet that was taken: it passed each of refusals 6, 20, 7, 8, 9, and it can be redirected.
 use mathlib.Core.Path.{_≡_, refl, sym, ap, _∙_}
 use mathlib.Core.List.{List}
 use mathlib.Core.Bool.{Bool, true, false, cond, not}
@@ -17,7 +17,7 @@ use Rattle.packet.specs.declared.read.Transport.{Transport}
 use Rattle.packet.specs.declared.read.Transport.the-variants.{Malformed, Carried}
 use Rattle.packet.specs.declared.read.Reading.the-variants.{Refused, Taken}
 use Rattle.packet.specs.Bytes.{payload}
-use Rattle.packet.specs.Reading.{broken, fragment, headerOf, readHeader, onHeader, tcpTests, tcpMalformed, udpTests, udpMalformed, readTcp, readUdp, readTransport, packetWith, withTransport, readPacket}
+use Rattle.packet.specs.Reading.{broken, headerVerifies, fragment, headerOf, readHeader, onHeader, tcpTests, tcpMalformed, udpTests, udpMalformed, readTcp, readUdp, readTransport, packetWith, withTransport, readPacket}
 use Rattle.packet.specs.Redirect.{sumPlace, Redirectable}
 use Rattle.packet.proofs.Whole.{none, whole}
 use Rattle.packet.proofs.Redirected.{payload-length}
@@ -28,9 +28,10 @@ refused f r e = let z : _≡_ {A = ℕ} 0 1 = cc in omega arith
 pub malformed : (t : TransportHeader) → Malformed ≡ Carried t → ⊥
 malformed t e = let z : _≡_ {A = ℕ} 0 1 = cc in omega arith
 
--- what is known of a packet whose header was read: refusals 6 and 7 do not name it
+-- what is known of a packet whose header was read: refusals 6, 20 and 7 do not name it
 pub record HeaderRead (p : List ℕ) (h : Header) : Type 0 where
   pub intact : broken p ≡ false
+  pub valid : headerVerifies p ≡ true
   pub unfragmented : fragment p ≡ false
   pub fields : headerOf p ≡ h
 
@@ -40,11 +41,13 @@ unread f h e = let z : _≡_ {A = ℕ} 0 1 = cc in omega arith
 pub header-read : (p : List ℕ) (h : Header) → readHeader p ≡ HeaderReading.Read h → HeaderRead p h
 header-read p h e =
     let s₁ = second (broken p) _ _ _ (unread Fault.MalformedHeader h) e in
-    let s₂ = second (fragment p) _ _ _ (unread Fault.Fragment h) (s₁ .1) in
-    record { intact = s₁ .0; unfragmented = s₂ .0; fields = cc (s₂ .1) }
+    let s₂ = second (not (headerVerifies p)) _ _ _ (unread Fault.BadChecksum h) (s₁ .1) in
+    let s₃ = second (fragment p) _ _ _ (unread Fault.Fragment h) (s₂ .1) in
+    record { intact = s₁ .0; valid = not-false _ (s₂ .0); unfragmented = s₃ .0; fields = cc (s₃ .1) }
 
 pub record Accepted (protocol : ℕ) (p : List ℕ) (r : Packet) : Type 0 where
   pub intact : broken p ≡ false
+  pub valid : headerVerifies p ≡ true
   pub unfragmented : fragment p ≡ false
   pub own : getD p 9 0 ≡ protocol
   pub carried : readTransport protocol (payload p) ≡ Carried (r .transport)
@@ -68,7 +71,7 @@ accepted protocol p r e = by-header (readHeader p) refl e
         let was = header-read p h read in
         let (own, rest) = second (not (eqb (getD p 9 0) protocol)) _ _ _ (refused Fault.OtherProtocol r) (rw (← (was .fields)) at e) in
         let (carried, fields) = with-transport (headerOf p) (readTransport protocol (payload p)) r rest in
-        record { intact = was .intact; unfragmented = was .unfragmented; own = eqb-true _ _ (not-false _ own); carried = carried; fields = fields }
+        record { intact = was .intact; valid = was .valid; unfragmented = was .unfragmented; own = eqb-true _ _ (not-false _ own); carried = carried; fields = fields }
 
 -- a transport part that was read has room for its checksum
 pub carried-room : (protocol : ℕ) (t : List ℕ) (h : TransportHeader) → readTransport protocol t ≡ Carried h → sumPlace protocol + 1 < length t

@@ -2,10 +2,11 @@
 use mathlib.Core.Path.{_≡_, refl}
 use mathlib.Core.List.{List, [], _∷_}
 use mathlib.Core.Bool.{Bool, true, false, true≢false}
-use Prim.Native.Nat.{ℕ, zero, suc, _%_}
+use Prim.Native.Nat.{ℕ, zero, suc, _/_, _%_}
 use native.Mathlib.Omega.{arith}
-use borrow.Author.Tests.{ltb-false, eqb-true, not-false}
-use lib.ListN.{getD}
+use borrow.Author.Tests.{ltb-false, le-ltb, eqb-true, eq-eqb, not-false}
+use lib.ListN.{length, getD}
+use Rattle.packet.specs.Bytes.{headerLength, totalLength}
 use Rattle.packet.specs.Reading.{anyOf, broken, brokenTests, Whole}
 
 -- where not one test of a list holds, none at any place does
@@ -26,5 +27,16 @@ whole p e =
       header = omega arith;
       ordered = ltb-false _ _ (no 3);
       within = ltb-false _ _ (no 4);
-      valid = not-false _ (no 5);
     }
+
+-- and refusal 6 names no packet of which that is known
+pub unbroken : (p : List ℕ) → Whole p → broken p ≡ false
+unfolding broken
+unbroken p w =
+    simp (
+      le-ltb (length p) 20 (w .long),
+      eq-eqb (getD p 0 0 / 16) 4 (w .version),
+      le-ltb (getD p 0 0 % 16) 5 (omega (arith, w .header)),
+      le-ltb (totalLength p) (headerLength p) (w .ordered),
+      le-ltb (length p) (totalLength p) (w .within),
+    )

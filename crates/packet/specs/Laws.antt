@@ -49,7 +49,7 @@ pub record VerifiesExactly (protocol : ℕ) (p q : List ℕ) : Type 0 where
   pub udp : protocol ≢ 6 → transportChecksum protocol p ≢ 0 → transportVerifies protocol q ≡ transportVerifies protocol p
 
 -- a valid checksum leaves as a fresh calculation would give it (SCOPE 7.8), also one that came as FFFF; UDP's 0 means none and stays 0. The header's
--- was valid, since 6 refuses any other.
+-- was valid, since 20 refuses any other.
 pub record LeavesFresh (protocol : ℕ) (p q : List ℕ) : Type 0 where
   pub header : wordAt q 10 ≡ freshHeader q
   pub tcp : protocol ≡ 6 → transportVerifies protocol p ≡ true → transportChecksum protocol q ≡ freshTransport protocol q

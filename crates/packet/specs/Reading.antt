@@ -1,4 +1,5 @@
--- What reading a packet finds (RFC 791, 9293, 768), and which of refusals 6 to 9 it meets (SCOPE 4.6 to 4.9). Assumes nothing: these are definitions.
+-- What reading a packet finds (RFC 791, 9293, 768), and which of refusals 6, 20, 7, 8, 9 it meets (SCOPE 4.6 to 4.9, 4.20). Assumes nothing: these are
+-- definitions.
 use Prim.Native.Nat.{ℕ, _-_, _*_, _/_, _%_, _≤_}
 use mathlib.Core.Path.{_≡_}
 use mathlib.Core.List.{List, [], _∷_}
@@ -18,9 +19,10 @@ use Rattle.packet.specs.declared.read.Packet.{Packet}
 use Rattle.packet.specs.declared.read.Reading.{Reading}
 use Rattle.packet.specs.declared.read.Reading.the-variants.{Refused, Taken}
 
--- the number of each fault (SCOPE 4.6 to 4.9)
+-- the number of each fault (SCOPE 4.6 to 4.9, 4.20)
 abbrev pub faultNumber : Fault → ℕ
 faultNumber Fault.MalformedHeader = 6
+faultNumber Fault.BadChecksum = 20
 faultNumber Fault.Fragment = 7
 faultNumber Fault.OtherProtocol = 8
 faultNumber Fault.MalformedTransport = 9
@@ -30,12 +32,7 @@ abbrev pub anyOf : List Bool → Bool
 anyOf [] = false
 anyOf (t ∷ ts) = t || anyOf ts
 
--- the header checksum is valid
-abbrev pub headerVerifies : List ℕ → Bool
-headerVerifies p = verifies (wordsOf (header p))
-
--- SCOPE 4.6: packet under 20 bytes; version not 4; header length word under 5; total length below header length or above the bytes given;
--- header checksum not valid
+-- SCOPE 4.6: packet under 20 bytes; version not 4; header length word under 5; total length below header length or above the bytes given
 abbrev pub brokenTests : List ℕ → List Bool
 brokenTests p =
     ltb (length p) 20
@@ -43,20 +40,22 @@ brokenTests p =
     ∷ ltb (getD p 0 0 % 16) 5
     ∷ ltb (totalLength p) (headerLength p)
     ∷ ltb (length p) (totalLength p)
-    ∷ not (headerVerifies p)
     ∷ []
 
 unfoldable pub broken : List ℕ → Bool
 broken p = anyOf (brokenTests p)
 
--- a packet that refusal 6 does not name: its lengths are in range and its header checksum is valid
+-- a packet that refusal 6 does not name: its version is 4 and its lengths are in range
 pub record Whole (p : List ℕ) : Type 0 where
   pub long : 20 ≤ length p
   pub version : getD p 0 0 / 16 ≡ 4
   pub header : 20 ≤ headerLength p
   pub ordered : headerLength p ≤ totalLength p
   pub within : totalLength p ≤ length p
-  pub valid : headerVerifies p ≡ true
+
+-- the header checksum is valid; where it is not, that is refusal 20 (SCOPE 4.20)
+abbrev pub headerVerifies : List ℕ → Bool
+headerVerifies p = verifies (wordsOf (header p))
 
 -- SCOPE 4.7: more-fragments set (bit 13 of the word), or fragment offset (the bits below it) not 0
 unfoldable pub fragment : List ℕ → Bool
@@ -67,11 +66,12 @@ abbrev pub headerOf : List ℕ → Header
 headerOf p =
     record { length = headerLength p; total = totalLength p; source = addressAt p 12; destination = addressAt p 16; protocol = getD p 9 0 }
 
--- the first of refusals 6 and 7 that applies, in that order; else the header, whatever it carries
+-- the first of refusals 6, 20 and 7 that applies, in that order; else the header, whatever it carries
 abbrev pub readHeader : List ℕ → HeaderReading
 readHeader p =
     cond (broken p) (HeaderReading.Refused Fault.MalformedHeader)
-    (cond (fragment p) (HeaderReading.Refused Fault.Fragment) (HeaderReading.Read (headerOf p)))
+    (cond (not (headerVerifies p)) (HeaderReading.Refused Fault.BadChecksum)
+    (cond (fragment p) (HeaderReading.Refused Fault.Fragment) (HeaderReading.Read (headerOf p))))
 
 -- SCOPE 4.9 for TCP: payload under 20 bytes, data offset under 5 words or past the payload
 abbrev pub tcpTests : List ℕ → List Bool
@@ -129,6 +129,6 @@ abbrev pub onHeader : ℕ → List ℕ → HeaderReading → Reading
 onHeader protocol p (HeaderReading.Refused why) = Refused why
 onHeader protocol p (HeaderReading.Read h) = cond (not (eqb (h .protocol) protocol)) (Refused Fault.OtherProtocol) (readPayload protocol h p)
 
--- the first of refusals 6 to 9 that applies, in that order (SCOPE 5.1); else the packet
+-- the first of refusals 6, 20, 7, 8, 9 that applies, in that order (SCOPE 5.1); else the packet
 unfoldable pub readPacket : ℕ → List ℕ → Reading
 readPacket protocol p = onHeader protocol p (readHeader p)

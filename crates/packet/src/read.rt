@@ -8,7 +8,7 @@ use checksum::word_at;
 ghost use mathlib.Core.Path.{_≡_};
 ghost use Prim.Native.Nat.{_≤_};
 ghost use lib.ListN.{length};
-ghost use Rattle.packet.specs.Reading.{faultNumber, broken, fragment, headerOf, readHeader, flagsOf, readTcp, readUdp, readTransport, readPayload, readPacket};
+ghost use Rattle.packet.specs.Reading.{faultNumber, broken, Whole, headerVerifies, fragment, headerOf, readHeader, flagsOf, readTcp, readUdp, readTransport, readPayload, readPacket};
 
 // The flags of a TCP header that connections go by.
 pub struct Flags {
@@ -31,20 +31,22 @@ pub enum Transport {
     Carried(TransportHeader),
 }
 
-// Why a packet is refused; `faultNumber` gives its number (SCOPE 4.6 to 4.9).
+// Why a packet is refused, in the order of the tests; `faultNumber` gives its number (SCOPE 4.6 to 4.9, 4.20).
 pub enum Fault {
     MalformedHeader,
+    BadChecksum,
     Fragment,
     OtherProtocol,
     MalformedTransport,
 }
 
-// The number of a fault (SCOPE 4.6 to 4.9).
+// The number of a fault (SCOPE 4.6 to 4.9, 4.20).
 pub fn fault_number(fault: Fault) -> u8
     ensures { λ r. ⌜ r ≡ faultNumber fault ⌝ }
 {
     match fault {
         Fault::MalformedHeader => 6,
+        Fault::BadChecksum => 20,
         Fault::Fragment => 7,
         Fault::OtherProtocol => 8,
         Fault::MalformedTransport => 9,
@@ -99,15 +101,21 @@ fn is_broken(p: &[u8]) -> bool
     if total < header {
         return true;
     }
-    if p.len() < total {
-        return true;
-    }
-    !is_valid(&p[..header])
+    p.len() < total
+}
+
+// The header checksum is valid; where it is not, that is refusal 20.
+fn is_header_valid(p: &[u8]) -> bool
+    requires { ⌜ Whole (now p) ⌝ }
+    ensures { λ r. ⌜ r ≡ headerVerifies (now (p .entry)) ⌝ }
+{
+    let end = header_length(p);
+    is_valid(&p[..end])
 }
 
 // Refusal 7.
 fn is_fragment(p: &[u8]) -> bool
-    requires { ⌜ 20 ≤ length (now p) ⌝ }
+    requires { ⌜ Whole (now p) ⌝ }
     ensures { λ r. ⌜ r ≡ fragment (now (p .entry)) ⌝ }
 {
     let w = word_at(p, 6);
@@ -131,12 +139,15 @@ fn header_of(p: &[u8]) -> Header
     }
 }
 
-// The header of `p`, whatever it carries, or the first of refusals 6 and 7 that applies.
+// The header of `p`, whatever it carries, or the first of refusals 6, 20 and 7 that applies.
 pub fn read_header(p: &[u8]) -> HeaderReading
     ensures { λ r. ⌜ r ≡ readHeader (now (p .entry)) ⌝ }
 {
     if is_broken(p) {
         return HeaderReading::Refused(Fault::MalformedHeader);
+    }
+    if !is_header_valid(p) {
+        return HeaderReading::Refused(Fault::BadChecksum);
     }
     if is_fragment(p) {
         return HeaderReading::Refused(Fault::Fragment);
@@ -209,7 +220,7 @@ fn read_transport(protocol: u8, t: &[u8]) -> Transport
     }
 }
 
-// A packet that refusals 6 to 8 do not name, by its header, or refusal 9.
+// A packet that no refusal before 9 names, by its header, or refusal 9.
 fn read_payload(protocol: u8, header: Header, p: &[u8]) -> Reading
     requires { ⌜ (header .length ≤ header .total) × (header .total ≤ length (now p)) ⌝ }
     ensures { λ r. ⌜ r ≡ readPayload protocol header (now (p .entry)) ⌝ }
@@ -228,7 +239,7 @@ fn read_payload(protocol: u8, header: Header, p: &[u8]) -> Reading
     }
 }
 
-// The packet in `p` for a service of `protocol`, or the first of refusals 6 to 9 that applies.
+// The packet in `p` for a service of `protocol`, or the first of refusals 6, 20, 7, 8, 9 that applies.
 pub fn read_packet(protocol: u8, p: &[u8]) -> Reading
     ensures { λ r. ⌜ r ≡ readPacket protocol (now (p .entry)) ⌝ }
 {

@@ -18,8 +18,8 @@ fn put_word(p: &mut [u8; 40], at: usize, w: u16)
     p[at + 1] = (w % 256) as u8;
 }
 
-// Writes an address.
-fn put_address(p: &mut [u8; 40], at: usize, address: u32)
+// Writes an address, or any other 32 bits, the highest byte first.
+pub fn put_address(p: &mut [u8; 40], at: usize, address: u32)
     requires { ⌜ at + 3 < 40 ⌝ }
 {
     put_word(p, at, (address / 65536) as u16);

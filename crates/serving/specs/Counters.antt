@@ -1,4 +1,4 @@
--- Counters of answers: 36 numbers, 18 for each way. Assumes nothing: these are definitions.
+-- Counters of answers: 46 numbers, 23 for each way, so that each refusal up to 20 has its place, also one that no call gives. Assumes nothing: these are definitions.
 use Prim.Native.Nat.{ℕ, _+_, _%_, _^_}
 use mathlib.Core.List.{List}
 use lib.ListN.{getD, set}
@@ -10,7 +10,7 @@ use Rattle.director.specs.State.{refusalNumber}
 -- the first counter of a way
 abbrev pub firstOf : Way → ℕ
 firstOf Way.Inbound = 0
-firstOf Way.Outbound = 18
+firstOf Way.Outbound = 23
 
 -- among those of a way, the counter of a change
 abbrev pub changeIndex : Change → ℕ

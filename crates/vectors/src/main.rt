@@ -1,9 +1,11 @@
-// The examples that are not proved (SCOPE E1 to E4), the published vectors of RFC 1071 and 1624, sums, edits in a row, and renewals, run.
+// The examples that are not proved (SCOPE E1 to E4), the published vectors of RFC 1071 and 1624, sums, edits in a row, renewals, and header checksums, run.
 mod editing;
+mod header;
 mod renewal;
 mod sums;
 
 use crate::editing::edits_in_a_row;
+use crate::header::header_checksums;
 use crate::renewal::renewals;
 use crate::sums::sums;
 use checksum::edit;
@@ -105,4 +107,5 @@ fn main() {
     offsets();
     rows();
     renewals();
+    header_checksums();
 }

@@ -126,7 +126,7 @@ fn is_possible_of_many(call: usize, place: usize) -> bool {
     }
 }
 
-/// "Order: setup 1, 2, 3, 4. Weight and count 15, 5. Tick 15, 11. Packets 15, 6 to 11, then 12 to 14."
+/// "Order: setup 1, 2, 3, 4. Weight and count 15, 5. Tick 15, 11. Packets 15, 6, 20, 7 to 11, then 12 to 14."
 fn refuses(call: usize, refusal: Refusal) -> bool {
     use Refusal::*;
     match call {

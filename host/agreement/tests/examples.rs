@@ -146,6 +146,37 @@ fn p11_whole_packet() {
     assert_eq!((answer, packet), (told(0, OPENED), packets::bytes_of(left)));
 }
 
+/// Whole packets, so that no builder stands between: P11's with one thing changed.
+#[test]
+fn bad_header_checksums_told_apart() {
+    let answer = |header: &str, transport: &str| {
+        let packet = packets::bytes_of(&[header, transport].concat());
+        Both::new(6, 1, &[1], 1).make(Call::Inbound { packet, clock: 0 }).0
+    };
+    let transport = "9C401538 00000000 00000000 50020000 325F0000";
+    let turned = "9C401538 00000000 00000000 50020000 325F0001";
+    let refusals = [
+        // time to live 66 for 64; a fragment, protocol 17 and a total length of 39 with it
+        ("45000028 00004000 42066EC5 0A000001 C000020A", 20),
+        ("45000028 00006000 42066EC5 0A000001 C000020A", 20),
+        ("45000028 00004000 42116EC5 0A000001 C000020A", 20),
+        ("45000027 00004000 42066EC5 0A000001 C000020A", 20),
+        // version 6, header length word 4, total lengths of 19 and 41 with it
+        ("65000028 00004000 42066EC5 0A000001 C000020A", 6),
+        ("44000028 00004000 42066EC5 0A000001 C000020A", 6),
+        ("45000013 00004000 42066EC5 0A000001 C000020A", 6),
+        ("45000029 00004000 42066EC5 0A000001 C000020A", 6),
+    ];
+    for (header, number) in refusals {
+        assert_eq!(answer(header, transport), refused(number), "{header}");
+    }
+    let p11 = "45000028 00004000 40066EC5 0A000001 C000020A";
+    assert_eq!(answer(p11, turned), told(0, OPENED));
+    // FFFF where a fresh one is 0000
+    let ffff = "45000028 6EC54000 4006FFFF 0A000001 C000020A";
+    assert_eq!(answer(ffff, transport), told(0, OPENED));
+}
+
 #[test]
 fn one_slot_used_and_live() {
     let mut both = Both::new(6, 1, &[1], 1);

@@ -10,7 +10,7 @@ use std::os::unix::net::UnixDatagram;
 fn answered(call: Call) -> (usize, u32) {
     match call {
         Call::Opening => (0, 1),
-        Call::Outbound => (19, 2),
+        Call::Outbound => (raw::COUNTERS / 2 + 1, 2),
         _ => (1, 2),
     }
 }

@@ -92,14 +92,14 @@ pub fn tick(state: State, row: &mut [u32], clock: u32) -> Answer {
     unsafe { nidhaaguf_tick(state, row.as_mut_ptr(), row.len(), clock) }
 }
 
-/// Takes a packet from a client. Refusals 15, 6 to 14.
+/// Takes a packet from a client. Refusals 15, 6, 20, 7 to 14.
 pub fn inbound(state: State, row: &mut [u32], packet: &mut [u8], clock: u32) -> Answer {
     let (bytes, length) = (packet.as_mut_ptr(), packet.len());
     // SAFETY: two exclusive references can't overlap, and both are lent whole for the call; any values are taken.
     unsafe { nidhaaguf_inbound(state, row.as_mut_ptr(), row.len(), bytes, length, clock) }
 }
 
-/// Takes a packet from a server. Refusals 15, 6 to 12.
+/// Takes a packet from a server. Refusals 15, 6, 20, 7 to 12.
 pub fn outbound(state: State, row: &mut [u32], packet: &mut [u8], clock: u32) -> Answer {
     let (bytes, length) = (packet.as_mut_ptr(), packet.len());
     // SAFETY: as for inbound.
@@ -127,7 +127,7 @@ pub fn burst(
 
 /// A tick at `clock`, then packets that are read from `descriptor`, each as inbound or outbound by its destination, and
 /// written back to it where they are accepted: until a read gives nothing or `most` are taken. Answers are added up in
-/// `counters`: place 18 * way + i, way 0 inbound and 1 outbound; i = 0 opened, 1 kept, 2 ended, 2 + n refusal n.
+/// `counters`: place 23 * way + i, way 0 inbound and 1 outbound; i = 0 opened, 1 kept, 2 ended, 2 + n refusal n.
 /// Where fewer than `most` were taken and the read failed, the error is `std::io::Error::last_os_error()`. Refusals 15, 11.
 pub fn serve(
     descriptor: BorrowedFd<'_>,

@@ -27,7 +27,7 @@ pub enum Refusal {
     ServerRepeated = 4,
     /// Weight, count: no server has that number.
     NoServer = 5,
-    /// Packet: not an IPv4 header whose version, lengths and checksum are right.
+    /// Packet: not an IPv4 header whose version and lengths are right.
     MalformedHeader = 6,
     /// Packet: a fragment.
     Fragment = 7,
@@ -47,11 +47,13 @@ pub enum Refusal {
     NoWeight = 14,
     /// Raw layer only: state and row are not what the calls have made.
     Unsound = 15,
+    /// Packet: the IPv4 header's checksum is not valid.
+    BadChecksum = 20,
 }
 
 impl Refusal {
-    /// All of them, lowest number first.
-    pub const ALL: [Refusal; 15] = [
+    /// All of them, lowest number first. 16 to 19 are none's.
+    pub const ALL: [Refusal; 16] = [
         Refusal::Sizes,
         Refusal::Service,
         Refusal::ServerUnset,
@@ -67,6 +69,7 @@ impl Refusal {
         Refusal::TableFull,
         Refusal::NoWeight,
         Refusal::Unsound,
+        Refusal::BadChecksum,
     ];
 
     /// Its number in the rules.
@@ -95,7 +98,8 @@ impl Refusal {
             | Refusal::MalformedTransport
             | Refusal::OtherEndpoint
             | Refusal::EarlierClock
-            | Refusal::Unsound => false,
+            | Refusal::Unsound
+            | Refusal::BadChecksum => false,
         }
     }
 
@@ -131,6 +135,7 @@ impl Refusal {
             Refusal::TableFull => "the connection table is full",
             Refusal::NoWeight => "every server's weight is 0",
             Refusal::Unsound => "state and row don't fit together",
+            Refusal::BadChecksum => "the packet's header checksum is not valid",
         }
     }
 }

@@ -14,8 +14,8 @@ pub const PLACE: usize = 2_048;
 /// Words of a burst's record.
 pub const WORDS_PER_RECORD: usize = 4;
 
-/// Counters of a serve: 18 for each way, inbound first.
-pub const COUNTERS: usize = 36;
+/// Counters of a serve: 23 for each way, inbound first. A refusal's place goes by its number, up to 20.
+pub const COUNTERS: usize = 46;
 
 /// A server; its number is its place.
 #[repr(C)]

@@ -80,7 +80,7 @@ fn packet_answer(taken: Taken) -> Answer {
     }
 }
 
-/// Order: 15, 6 to 11, then 12 to 14.
+/// Order: 15, 6, 20, 7 to 11, then 12 to 14.
 fn take_inbound(state: &mut State, row: &mut [u32], packet: &mut [u8], clock: u32) -> Taken {
     require_sound(state, row)?;
     let protocol = state.service.protocol;
@@ -105,7 +105,7 @@ fn take_inbound(state: &mut State, row: &mut [u32], packet: &mut [u8], clock: u3
     Ok((server, change))
 }
 
-/// Order: 15, 6 to 11, then 12. "Outbound packets open nothing."
+/// Order: 15, 6, 20, 7 to 11, then 12. "Outbound packets open nothing."
 fn take_outbound(state: &mut State, row: &mut [u32], packet: &mut [u8], clock: u32) -> Taken {
     require_sound(state, row)?;
     let protocol = state.service.protocol;
@@ -140,7 +140,7 @@ fn existing_server(state: &State, row: &[u32], number: u32) -> Result<ServerNumb
     }
 }
 
-/// Refusals 6 to 9. The part from the IP header's own length is handed to the segment reader.
+/// Refusals 6, 20, 7 to 9. The part from the IP header's own length is handed to the segment reader.
 fn read_packet(packet: &[u8], protocol: u8) -> Result<(Header, Segment), u8> {
     let header = header::read(packet, protocol)?;
     let segment = segment::read(&packet[header.length..header.total], protocol)?;

@@ -1,4 +1,4 @@
-//! The IP header (RFC 791): refusals 6, 7 and 8.
+//! The IP header (RFC 791): refusals 6, 20, 7 and 8.
 
 use crate::checksum;
 use crate::refusal;
@@ -25,11 +25,12 @@ pub fn address(bytes: &[u8], at: usize) -> u32 {
     u32::from(word(bytes, at)) << 16 | u32::from(word(bytes, at + 2))
 }
 
-/// Refusals 6, 7, 8 in their order.
+/// Refusals 6, 20, 7, 8 in their order.
 pub fn read(packet: &[u8], protocol: u8) -> Result<Header, u8> {
     let header = read_lengths(packet).ok_or(refusal::HEADER)?;
+    // 20: "header checksum not valid"
     if !checksum::is_valid(&packet[..header.length]) {
-        return Err(refusal::HEADER);
+        return Err(refusal::HEADER_CHECKSUM);
     }
     if is_fragment(packet) {
         return Err(refusal::FRAGMENT);

@@ -192,6 +192,14 @@ pub fn mend_header(packet: &mut [u8]) {
     packet[10..12].copy_from_slice(&sum.to_be_bytes());
 }
 
+/// Writes a header checksum that doesn't verify: the right one with a bit of its 16 turned, 0 the highest.
+pub fn spoil_header(packet: &mut [u8], bit: usize) {
+    mend_header(packet);
+    if let Some(byte) = packet.get_mut(10 + bit / 8) {
+        *byte ^= 0x80 >> (bit % 8);
+    }
+}
+
 /// Bytes of a hex text; spaces are passed over.
 pub fn bytes_of(hex: &str) -> Vec<u8> {
     let digits: Vec<u8> = hex.chars().filter_map(|c| c.to_digit(16)).map(|d| d as u8).collect();

@@ -15,9 +15,10 @@ pub const NO_CONNECTION: u8 = 12;
 pub const TABLE_FULL: u8 = 13;
 pub const NO_WEIGHT: u8 = 14;
 pub const UNSOUND: u8 = 15;
+pub const HEADER_CHECKSUM: u8 = 20;
 
-/// All of them.
-pub const ALL: [u8; 15] = [
+/// All of them, lowest first. 16 to 19 are given by nothing.
+pub const ALL: [u8; 16] = [
     SIZES,
     SERVICE,
     SERVER_ENDPOINT,
@@ -33,10 +34,12 @@ pub const ALL: [u8; 15] = [
     TABLE_FULL,
     NO_WEIGHT,
     UNSOUND,
+    HEADER_CHECKSUM,
 ];
 
-/// "Packets 15, 6 to 11, then 12 to 14": what a packet may be refused with before its clock is looked at.
-pub const BEFORE_CLOCK: [u8; 6] = [UNSOUND, HEADER, FRAGMENT, PROTOCOL, SEGMENT, NOT_OURS];
+/// "Packets 15, 6, 20, 7 to 11, then 12 to 14": what a packet may be refused with before its clock is looked at.
+pub const BEFORE_CLOCK: [u8; 7] =
+    [UNSOUND, HEADER, HEADER_CHECKSUM, FRAGMENT, PROTOCOL, SEGMENT, NOT_OURS];
 
 /// "After 11 is passed, the clock is stored and idle connections are removed; 12, 13 and 14 keep that and change nothing
 /// else." The others change nothing at all.

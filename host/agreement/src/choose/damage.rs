@@ -3,8 +3,16 @@
 use random::Rng;
 use reference::packets::{self, Plan, Sum};
 
-/// The bytes of a packet, damaged.
-pub fn damaged(rng: &mut Rng, mut plan: Plan, inbound: bool) -> Vec<u8> {
+/// The bytes of a packet, damaged; often the header checksum is wrong beside the other fault.
+pub fn damaged(rng: &mut Rng, plan: Plan, inbound: bool) -> Vec<u8> {
+    let mut bytes = with_a_fault(rng, plan, inbound);
+    if rng.permille(250) {
+        packets::spoil_header(&mut bytes, rng.below(16));
+    }
+    bytes
+}
+
+fn with_a_fault(rng: &mut Rng, mut plan: Plan, inbound: bool) -> Vec<u8> {
     match rng.below(16) {
         0 => plan.version = Some(rng.below(16) as u8),
         1 => plan.header_words = Some(rng.below(16) as u8),

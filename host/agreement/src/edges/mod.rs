@@ -1,5 +1,6 @@
 //! Which edges a run has met, so that a generator that has lost one is seen.
 
+mod checksum;
 mod counted;
 mod renewal;
 
@@ -160,9 +161,9 @@ impl Moment<'_> {
     }
 }
 
-/// All edges of single calls, those of renewals last.
+/// All edges of single calls.
 fn all() -> impl Iterator<Item = &'static Edge> {
-    EDGES.iter().chain(&renewal::EDGES)
+    EDGES.iter().chain(&renewal::EDGES).chain(&checksum::EDGES)
 }
 
 /// The edges of single calls, none met.

@@ -19,6 +19,9 @@ pub const SIZES: [usize; 6] = [0, 1, 2, 7, 64, 300];
 const LENGTHS: [u32; 11] =
     [0, 19, 20, 2_047, 2_048, 2_048, 2_049, 65_535, 65_536, 1 << 31, u32::MAX];
 
+/// First counters. The last four make one more wrap: of an outbound 20, an outbound ending, an inbound 20, an opening.
+const COUNTED: [u64; 7] = [0, 7, 1 << 32, u64::MAX - 45, u64::MAX - 25, u64::MAX - 22, u64::MAX];
+
 /// A case that is being drawn.
 pub struct Case {
     pub kind: Kind,
@@ -145,7 +148,7 @@ fn serve(rng: &mut Rng, packets: &mut [Packet]) -> Serve {
     let few = size as u32 / 2;
     let size_and_one = size as u32 + 1;
     let most = rng.one_of(&[0, 1, few, size as u32, size as u32, size_and_one, u32::MAX, u32::MAX]);
-    let counted = rng.one_of(&[0, 7, 1 << 32, u64::MAX - 40, u64::MAX - 20, u64::MAX]);
+    let counted = rng.one_of(&COUNTED);
     let other_end = match size <= FEW {
         true => rng.one_of(&[OtherEnd::Ending, OtherEnd::Silent, OtherEnd::Unreceiving]),
         false => OtherEnd::Ending,

@@ -15,7 +15,7 @@ pub struct Moment<'a> {
 type Edge<T> = (&'static str, fn(&Moment, &T) -> bool);
 
 /// Of the single calls, in bursts as in serves.
-const BOTH: [Edge<Singly>; 12] = [
+const BOTH: [Edge<Singly>; 14] = [
     ("0 packets", |_, all| all.tick.refusal == 0 && all.steps.is_empty()),
     ("1 packet", |_, all| all.steps.len() == 1),
     ("2 packets", |_, all| all.steps.len() == 2),
@@ -28,6 +28,12 @@ const BOTH: [Edge<Singly>; 12] = [
     ("table gets full", |_, all| all.comes_before(|step| step.told.change == 1, is_full)),
     ("removal by the tick", |_, all| all.tick.refusal == 0 && all.tick.number > 0),
     ("refused, then accepted", |_, all| all.comes_before(|step| !is_accepted(step), is_accepted)),
+    ("20, then accepted", |_, all| all.comes_before(is_bad_checksum, is_accepted)),
+    ("20 both ways", |_, all| {
+        [true, false]
+            .iter()
+            .all(|&out| all.has(|step| is_bad_checksum(step) && is_out(step) == out))
+    }),
 ];
 
 const BURSTS: [Edge<Burst>; 14] = [
@@ -74,6 +80,10 @@ fn is_accepted(step: &Step) -> bool {
 
 fn is_full(step: &Step) -> bool {
     step.told.refusal == 13
+}
+
+fn is_bad_checksum(step: &Step) -> bool {
+    step.told.refusal == 20
 }
 
 fn is_out(step: &Step) -> bool {

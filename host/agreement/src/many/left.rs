@@ -69,7 +69,7 @@ fn make_serve(side: &dyn ManySide, many: &Many, serve: Serve, world: &World) -> 
             state: &mut state,
             row: row.part(),
             buffer: buffer.part(),
-            counters: counters.part().try_into().expect("36 counters"),
+            counters: counters.part().try_into().expect("as many as were lent"),
             clock: many.clock,
             most: serve.most,
         });

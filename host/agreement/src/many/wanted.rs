@@ -6,10 +6,11 @@ use super::other_end::{OtherEnd, Seen};
 use super::sides::ToldOfMany;
 use super::singly::{Singly, Step};
 use crate::world::World;
-use nidhaaguf::raw::{PLACE, WORDS_PER_RECORD};
+use nidhaaguf::raw::{COUNTERS, PLACE, WORDS_PER_RECORD};
 
-/// Counters of one way.
-const EACH_WAY: usize = 18;
+/// Counters of one way: three changes, and the refusals by their number up to 20.
+pub const EACH_WAY: usize = 23;
+const _: () = assert!(2 * EACH_WAY == COUNTERS);
 
 /// What is wanted, and the single calls that it stands for.
 #[derive(Debug)]
@@ -98,7 +99,7 @@ fn taken(singly: &mut Singly, serve: &Serve, sent: &[Vec<u8>]) -> usize {
     reads
 }
 
-/// "counters[18 * way + i]: i = 0 opened, 1 kept, 2 ended, 2 + n refusal n"
+/// "counters[23 * way + i]: i = 0 opened, 1 kept, 2 ended, 2 + n refusal n"
 pub fn counter_of(step: &Step) -> usize {
     let place = match step.told.refusal {
         0 => step.told.change - 1,

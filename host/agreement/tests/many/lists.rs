@@ -4,7 +4,7 @@ use crate::support::{back, both, ended, from, kept, opened, refused, world};
 use agreement::worlds::breaks::BREAKS;
 use agreement::worlds::sound;
 use random::Rng;
-use reference::packets::{ACK, FIN, RST, SYN};
+use reference::packets::{mend_header, spoil_header, ACK, FIN, RST, SYN};
 
 #[test]
 fn one_client_opens_finishes_resets_and_opens_again() {
@@ -24,6 +24,35 @@ fn one_client_opens_finishes_resets_and_opens_again() {
         [opened(0), kept(0), kept(0), opened(1), ended(1), refused(12), opened(0), kept(0)];
     assert_eq!(answers, wanted);
     assert_eq!(after.counts(), [1, 0]);
+}
+
+/// Bad checksums of both ways, and beside other faults, between packets that are taken.
+#[test]
+fn bad_checksums_change_nothing() {
+    let bad = |mut packet: Vec<u8>| {
+        spoil_header(&mut packet, 0);
+        packet
+    };
+    let mut fragment = from(1, SYN);
+    fragment[6] |= 0x20;
+    mend_header(&mut fragment);
+    let mut cut = bad(from(1, SYN));
+    cut.truncate(39);
+    let packets = vec![
+        bad(from(1, SYN)),
+        from(1, SYN),
+        bad(from(1, RST)),
+        bad(back(0, 1, RST)),
+        fragment.clone(),
+        bad(fragment),
+        cut,
+        bad(from(2, ACK)),
+        back(0, 1, ACK),
+    ];
+    let (answers, after) = both(&world(1), 7, packets);
+    let refusals = [20, 0, 20, 20, 7, 20, 6, 20, 0];
+    assert_eq!(answers.iter().map(|told| told.refusal).collect::<Vec<_>>(), refusals);
+    assert_eq!((answers[1], answers[8], after.counts()), (opened(0), kept(0), vec![1, 0]));
 }
 
 #[test]

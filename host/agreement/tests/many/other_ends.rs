@@ -3,7 +3,8 @@
 use crate::support::{answers, back, from, kept, make, many, opened, refused, world, SERVE};
 use agreement::many::call::{Form, Many, Serve};
 use agreement::many::other_end::OtherEnd;
-use reference::packets::{ACK, SYN};
+use nidhaaguf::raw::COUNTERS;
+use reference::packets::{spoil_header, ACK, SYN};
 
 /// A client that opens and goes on, a packet of nobody, an answer: three are accepted.
 fn four(serve: Serve) -> Many {
@@ -27,16 +28,33 @@ fn accepted_ones_are_written_once_and_in_order() {
 fn counters_count_each_answer_by_its_way() {
     for counted in [0, 5, u64::MAX] {
         let counters = make(&world(2), &four(Serve { counted, ..SERVE })).left.counters.unwrap();
-        let more: Vec<u64> = counters
-            .iter()
-            .enumerate()
-            .map(|(place, counter)| counter.wrapping_sub(counted.wrapping_add(place as u64)))
-            .collect();
-        let mut wanted = vec![0; 36];
+        let mut wanted = [0; COUNTERS];
         // inbound: one opened, one kept, one refused with 12; outbound: one kept
-        (wanted[0], wanted[1], wanted[14], wanted[18 + 1]) = (1, 1, 1, 1);
-        assert_eq!(more, wanted);
+        (wanted[0], wanted[1], wanted[14], wanted[23 + 1]) = (1, 1, 1, 1);
+        assert_eq!(more(&counters, counted), wanted);
     }
+}
+
+/// How much was added to each counter.
+fn more(counters: &[u64], counted: u64) -> Vec<u64> {
+    let before = |place: usize| counted.wrapping_add(place as u64);
+    let counters = counters.iter().enumerate();
+    counters.map(|(place, counter)| counter.wrapping_sub(before(place))).collect()
+}
+
+#[test]
+fn bad_checksums_have_the_last_counter_of_each_way() {
+    let packets = [from(1, SYN), from(2, SYN), back(0, 1, ACK)].map(|mut packet| {
+        spoil_header(&mut packet, 0);
+        packet
+    });
+    let counted = u64::MAX - 22;
+    let serve = Form::Serve(Serve { counted, ..SERVE });
+    let left = make(&world(2), &many(7, packets.to_vec(), serve)).left;
+    let mut wanted = [0; COUNTERS];
+    (wanted[22], wanted[45]) = (2, 1);
+    assert_eq!(more(&left.counters.unwrap(), counted), wanted);
+    assert_eq!((left.told.taken, left.seen.written.len()), (3, 0));
 }
 
 #[test]
@@ -88,5 +106,5 @@ fn a_refused_tick_reads_nothing() {
     let left = make(&later, &four(SERVE)).left;
     assert_eq!((left.told.refusal, left.told.taken), (11, 0));
     assert_eq!(left.seen.unread.len(), 5);
-    assert_eq!(left.counters, Some((0..36).collect()));
+    assert_eq!(left.counters, Some((0..COUNTERS as u64).collect()));
 }

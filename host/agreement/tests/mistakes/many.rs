@@ -90,6 +90,11 @@ fn an_answer_counted_for_the_other_way() {
 }
 
 #[test]
+fn refusals_counted_as_if_no_number_were_left_out() {
+    is_found_in(Serves, Mistake::CountedWithoutGaps, 1, "counters");
+}
+
+#[test]
 fn refused_packets_written() {
     is_found_in(Serves, Mistake::RefusedWritten, 2, "written");
 }

@@ -3,8 +3,9 @@
 use agreement::call::{Call, Told};
 use agreement::many::sides::{LentToBurst, LentToServe, ManySide, ToldOfMany};
 use agreement::many::singly::{single_call, way_of, Way};
+use agreement::many::wanted::EACH_WAY;
 use agreement::sides::{Reference, Side};
-use reference::{is_sound, State};
+use reference::{is_sound, refusal, State};
 use std::os::unix::net::UnixDatagram;
 
 /// Bursts and serves by the reference's single calls, with a mistake in one of the two forms.
@@ -27,6 +28,7 @@ pub enum Mistake {
     PartOfAPlaceTaken,
     // of serves
     CountedForOtherWay,
+    CountedWithoutGaps,
     RefusedWritten,
     AcceptedWrittenTwice,
     OneMoreThanMost,
@@ -131,8 +133,13 @@ impl ManySide for MistakenMany {
 impl Mistake {
     fn counter(self, way: Way, told: Told) -> usize {
         let way = way as usize ^ usize::from(self == Mistake::CountedForOtherWay);
-        let answer = if told.refusal == 0 { told.change - 1 } else { told.refusal + 2 };
-        18 * way + answer as usize
+        let place = refusal::ALL.iter().position(|&number| u32::from(number) == told.refusal);
+        let answer = match place {
+            None => told.change as usize - 1,
+            Some(place) if self == Mistake::CountedWithoutGaps => 3 + place,
+            Some(_) => told.refusal as usize + 2,
+        };
+        EACH_WAY * way + answer
     }
 
     /// Writes the packet if it is to be written, and tells how often that failed.

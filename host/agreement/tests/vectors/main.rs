@@ -1,11 +1,12 @@
 //! The examples and vectors that the gate's program `vectors` runs, by the second implementation: the same text.
 
+mod checksum;
 mod editing;
 mod renewal;
 mod sums;
 mod written;
 
-use reference::checksum;
+use reference::checksum::edit_word;
 use std::fmt::Write;
 use written::Written;
 
@@ -14,7 +15,7 @@ fn checksums(text: &mut String) {
     sums::summed(text, &[0x00, 0x01, 0xf2, 0x03, 0xf4, 0xf5, 0xf6, 0xf7]);
     sums::summed(text, &[0x01, 0x00, 0x03, 0xf2, 0xf5, 0xf4, 0xf7, 0xf6]);
     text.push_str("RFC 1624: the checksum dd2f, where 5555 becomes 3285\n");
-    writeln!(text, "  {:04x}", checksum::edit_word(0xDD2F, 0x5555, 0x3285)).unwrap();
+    writeln!(text, "  {:04x}", edit_word(0xDD2F, 0x5555, 0x3285)).unwrap();
 }
 
 fn calls(text: &mut String) {
@@ -46,5 +47,6 @@ fn the_second_implementation_writes_what_the_gate_stores() {
     editing::edits(&mut text);
     calls(&mut text);
     renewal::renewals(&mut text);
+    checksum::header_checksums(&mut text);
     assert_eq!(text, include_str!("../../../../crates/vectors/stdout"));
 }

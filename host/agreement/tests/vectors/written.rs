@@ -64,7 +64,7 @@ impl Written<'_> {
         writeln!(self.text, "  {told}").unwrap();
     }
 
-    fn inbound(&mut self, mut packet: Vec<u8>, clock: u32) {
+    pub fn inbound(&mut self, mut packet: Vec<u8>, clock: u32) {
         let answer = reference::inbound(&mut self.state, &mut self.row, &mut packet, clock);
         self.line(answer);
     }

@@ -10,11 +10,22 @@ use crate::log::position::{Position, Told};
 use nidhaaguf::raw::{Server, Service, State, COUNTERS, PLACES, WORDS_PER_SLOT};
 use std::time::Duration;
 
-/// The layout's number. A program takes no other than its own.
-pub const LAYOUT: u32 = 1;
+/// The layout's number: this one is written, and no other.
+pub const LAYOUT: u32 = 2;
 
 // another number here is another layout: it needs another number too
-const _: () = assert!(COUNTERS == 36 && PLACES == 64 && WORDS_PER_SLOT == 5 && LAYOUT == 1);
+const _: () = assert!(COUNTERS == 46 && PLACES == 64 && WORDS_PER_SLOT == 5 && LAYOUT == 2);
+
+/// The layouts that are read, and how many counters of packets each has for a way. They differ in nothing else, and a
+/// counter has its place by its answer: those that a layout lacks are the last of each way, and begin at 0. Under 6 layout
+/// 1 has the wrong header checksums too.
+const READ: [(u32, usize); 2] = [(1, 18), (LAYOUT, COUNTERS_A_WAY)];
+const COUNTERS_A_WAY: usize = COUNTERS / 2;
+
+/// The layouts that are read but not written.
+pub fn earlier() -> impl Iterator<Item = u32> {
+    READ.into_iter().map(|(layout, _)| layout).filter(|&layout| layout != LAYOUT)
+}
 
 /// More bytes than the largest director has.
 pub const MOST_BYTES: usize = 100_000;
@@ -46,11 +57,12 @@ pub fn read(bytes: &[u8]) -> Result<Snapshot, String> {
         ));
     }
     let mut input = Reader(body.get(MARK.len()..).ok_or_else(cut)?);
-    let read = |input: &mut Reader<'_>| match input.u32()? {
-        LAYOUT => Some(Ok(input.snapshot()?)),
-        other => Some(Err(format!("its layout is {other}, and this program's is {LAYOUT}"))),
-    };
-    let snapshot = read(&mut input).ok_or_else(cut)??;
+    let layout = input.u32().ok_or_else(cut)?;
+    let (_, counters) = READ.into_iter().find(|&(read, _)| read == layout).ok_or_else(|| {
+        let read = READ.map(|(read, _)| read.to_string()).join(" and ");
+        format!("its layout is {layout}, and this program reads {read}")
+    })?;
+    let snapshot = input.snapshot(counters).ok_or_else(cut)?;
     match input.0.len() {
         0 => Ok(snapshot),
         left => Err(format!("it has {left} bytes too many")),
@@ -151,7 +163,7 @@ impl Writer {
 struct Reader<'a>(&'a [u8]);
 
 impl Reader<'_> {
-    fn snapshot(&mut self) -> Option<Snapshot> {
+    fn snapshot(&mut self, counters_a_way: usize) -> Option<Snapshot> {
         let boot = self.text()?;
         let seconds = Duration::from_secs(self.u64()?);
         let zero = seconds.checked_add(Duration::from_nanos(self.u32()?.into()))?;
@@ -163,7 +175,8 @@ impl Reader<'_> {
         let row = (0..words).map(|_| self.u32()).collect::<Option<_>>()?;
         let servers = (state.service.servers as usize).min(PLACES);
         let configured = (0..servers).map(|_| self.u16()).collect::<Option<_>>()?;
-        let (counters, weights_set, log) = (self.counters()?, self.u64()?, self.position()?);
+        let counters = self.counters(counters_a_way)?;
+        let (weights_set, log) = (self.u64()?, self.position()?);
         Some(Snapshot { boot, clock, state, row, configured, counters, weights_set, log })
     }
 
@@ -179,9 +192,9 @@ impl Reader<'_> {
         Some(State { service, clock, servers, place: self.u64()?, level: self.u16()? })
     }
 
-    fn counters(&mut self) -> Option<Counters> {
+    fn counters(&mut self, a_way: usize) -> Option<Counters> {
         let mut words = [0; COUNTERS];
-        for word in &mut words {
+        for word in words.chunks_mut(COUNTERS_A_WAY).flat_map(|way| &mut way[..a_way]) {
             *word = self.u64()?;
         }
         let packets = nidhaaguf::Counters::of_words(words);

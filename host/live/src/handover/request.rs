@@ -1,6 +1,6 @@
 //! What the next process asks for over the control socket, before anything stops.
 
-use super::layout::LAYOUT;
+use super::layout::{self, LAYOUT};
 use crate::config::words;
 use crate::instance::Instance;
 use nidhaaguf::Protocol;
@@ -55,14 +55,23 @@ impl Request {
         let asked = named(self.service, self.protocol);
         let served = named(settings.service, settings.protocol);
         if self.layout != LAYOUT {
-            return Err(format!(
-                "layout {} is asked for, and this program's is {LAYOUT}",
-                self.layout
-            ));
+            return Err(other_layout(self.layout, LAYOUT));
         }
         if asked != served {
             return Err(format!("the service {asked} is asked for, and {served} is served here"));
         }
         Ok(())
     }
+
+    /// The request for an earlier layout, where this one is refused because the other program has that one.
+    pub fn earlier(&self, refusal: &str) -> Option<Request> {
+        let layout =
+            layout::earlier().find(|&layout| refusal == other_layout(self.layout, layout))?;
+        Some(Request { layout, ..*self })
+    }
+}
+
+/// Why a program of another layout hands nothing over. The next process reads it: these words stay as they are.
+fn other_layout(asked: u32, own: u32) -> String {
+    format!("layout {asked} is asked for, and this program's is {own}")
 }

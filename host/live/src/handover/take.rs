@@ -28,37 +28,74 @@ pub struct Taken {
     pub giver: Giver,
 }
 
-/// Asks the process that serves at that socket, and takes what it hands over.
+/// Asks the process that serves at that socket, and takes what it hands over. One of an earlier layout refuses before it
+/// stops anything, and is asked again.
 pub fn take(socket: &Path, request: Request) -> Result<Taken, String> {
-    let place = socket.display();
-    let stream = UnixStream::connect(socket)
-        .map_err(|error| format!("no director serves at {place}: {error}"))?;
-    // it may first have to wait for the one that takes over before
-    let taken = Timed::new(stream, 2 * PATIENCE).and_then(|stream| receive(stream, request));
-    taken.map_err(|error| format!("the director at {place} hands nothing over: {error}"))?
+    let answer = ask(socket, request)?;
+    let answer = match answer.refusal().and_then(|reason| request.earlier(reason)) {
+        Some(earlier) => ask(socket, earlier)?,
+        None => answer,
+    };
+    receive(answer).map_err(|error| nothing(socket, &error))?
 }
 
-fn receive(mut stream: Timed, request: Request) -> io::Result<Result<Taken, String>> {
-    // turned away, it may be gone already, and yet have said why
-    let _ = stream.write(request.line().as_bytes());
-    stream.stream.set_read_timeout(stream.left()?)?;
-    let mut first = [0];
-    let (length, files) = match descriptors::receive(&stream.stream, &mut first) {
-        // gone before it has read the request
-        Err(error) if error.kind() == ErrorKind::ConnectionReset => (0, Vec::new()),
-        received => received?,
-    };
-    let mut line = first[..length].to_vec();
-    stream.read_line(&mut line, MOST_LINE)?;
-    let line = String::from_utf8_lossy(&line).trim_end().to_string();
-    let Some(number) = line.strip_prefix(STATE).and_then(|number| number.parse().ok()) else {
-        return Err(io::Error::other(match (line.as_str(), line.strip_prefix("error: ")) {
-            (_, Some(reason)) => reason.to_string(),
-            ("", _) => "it has gone, and another process may serve by now".into(),
-            _ => format!("it says {line:?}"),
-        }));
-    };
-    let mut bytes = vec![0; MOST_BYTES.min(number)];
+fn ask(socket: &Path, request: Request) -> Result<Answer, String> {
+    let stream = UnixStream::connect(socket)
+        .map_err(|error| format!("no director serves at {}: {error}", socket.display()))?;
+    // it may first have to wait for the one that takes over before
+    let answer = Timed::new(stream, 2 * PATIENCE).and_then(|stream| Answer::to(request, stream));
+    answer.map_err(|error| nothing(socket, &error))
+}
+
+fn nothing(socket: &Path, error: &io::Error) -> String {
+    format!("the director at {} hands nothing over: {error}", socket.display())
+}
+
+/// The first line of what comes, and the files that came with it.
+struct Answer {
+    stream: Timed,
+    line: String,
+    files: Vec<OwnedFd>,
+}
+
+impl Answer {
+    fn to(request: Request, mut stream: Timed) -> io::Result<Answer> {
+        // turned away, it may be gone already, and yet have said why
+        let _ = stream.write(request.line().as_bytes());
+        stream.stream.set_read_timeout(stream.left()?)?;
+        let mut first = [0];
+        let (length, files) = match descriptors::receive(&stream.stream, &mut first) {
+            // gone before it has read the request
+            Err(error) if error.kind() == ErrorKind::ConnectionReset => (0, Vec::new()),
+            received => received?,
+        };
+        let mut line = first[..length].to_vec();
+        stream.read_line(&mut line, MOST_LINE)?;
+        let line = String::from_utf8_lossy(&line).trim_end().to_string();
+        Ok(Answer { stream, line, files })
+    }
+
+    /// Why the request is refused.
+    fn refusal(&self) -> Option<&str> {
+        self.line.strip_prefix("error: ")
+    }
+
+    /// How many bytes follow; an error says why none do.
+    fn length(&self) -> io::Result<usize> {
+        let number = self.line.strip_prefix(STATE).and_then(|number| number.parse().ok());
+        number.ok_or_else(|| {
+            io::Error::other(match (self.line.as_str(), self.refusal()) {
+                (_, Some(reason)) => reason.to_string(),
+                ("", _) => "it has gone, and another process may serve by now".into(),
+                (line, _) => format!("it says {line:?}"),
+            })
+        })
+    }
+}
+
+fn receive(answer: Answer) -> io::Result<Result<Taken, String>> {
+    let mut bytes = vec![0; MOST_BYTES.min(answer.length()?)];
+    let Answer { mut stream, files, .. } = answer;
     stream.read_exact(&mut bytes)?;
     let [device, listener, word] = files
         .try_into()

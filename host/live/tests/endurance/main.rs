@@ -7,9 +7,12 @@ mod clients;
 mod counts;
 mod daemon;
 mod damage;
+mod earlier_program;
 mod endings;
 mod floods;
 mod killed;
+#[path = "../shared/layouts.rs"]
+mod layouts;
 mod link;
 mod logs;
 mod model;
@@ -38,6 +41,7 @@ fn packets_of_all_kinds() {
     in_own_network("endurance of packets", || {
         let mut rig = Rig::start("packets");
         packets::damaged_packets(&mut rig);
+        packets::damaged_headers(&mut rig);
         packets::other_services(&mut rig);
         packets::full_table(&mut rig);
         packets::every_weight_zero(&mut rig);
@@ -170,6 +174,16 @@ fn takeovers_in_which_one_is_killed() {
         killed::after_it_has_sent();
         killed::stopped_while_it_waits();
         killed::stopped_taker();
+    });
+}
+
+#[test]
+fn upgrades_from_an_earlier_layout() {
+    in_own_network("endurance of upgrades from an earlier layout", || {
+        let mut rig = Rig::start("layout-1");
+        earlier_program::take_over(&mut rig);
+        earlier_program::state_file(&mut rig);
+        rig.daemon.end_by("TERM");
     });
 }
 

@@ -1,11 +1,12 @@
 //! Packets that the daemon must outlast.
 
+use crate::counts::Counts;
 use crate::damage::damaged;
 use crate::link;
 use crate::model::{SERVERS, SLOTS, VIRTUAL};
 use crate::rig::Rig;
 use random::Rng;
-use reference::packets::{tcp, udp, ACK, SYN};
+use reference::packets::{tcp, udp, Plan, Sum, ACK, SYN};
 
 const FLOOD: usize = 20_000;
 
@@ -15,15 +16,50 @@ pub fn damaged_packets(rig: &mut Rig) {
     let flood: Vec<_> = (0..FLOOD).map(|_| damaged(&mut random)).collect();
     rig.send(&flood);
     let counts = rig.model.counts();
-    for number in [6, 7, 8, 9, 10, 12] {
-        let of = |way| {
-            counts.get(&format!("nidhaaguf_refusals_total{{way=\"{way}\",number=\"{number}\"}}"))
-        };
+    for number in [6, 7, 8, 9, 10, 12, 20] {
         // else the flood isn't what it is meant to be
-        assert!(of("inbound") + of("outbound") > 50, "{counts:?}");
+        assert!(refused(&counts, number) > 50, "{counts:?}");
     }
     rig.end_all();
     rig.must_serve();
+}
+
+/// How many packets were refused so, both ways.
+fn refused(counts: &Counts, number: u32) -> u64 {
+    let of =
+        |way| counts.get(&format!("nidhaaguf_refusals_total{{way=\"{way}\",number=\"{number}\"}}"));
+    of("inbound") + of("outbound")
+}
+
+/// A header of which a bit was turned is refused with 20, for its checksum; a wrong length with 6, whatever the checksum.
+pub fn damaged_headers(rig: &mut Rig) {
+    let plan = tcp((0x0A00_0001, rig.new_port()), VIRTUAL, SYN);
+    let good = plan.build();
+    let turned = |bit: usize| {
+        let mut packet = good.clone();
+        packet[bit / 8] ^= 1 << (bit % 8);
+        packet
+    };
+    // all but the version's and those of the lengths
+    let bits = (8..16).chain(32..160);
+    must_be_refused(rig, &bits.map(turned).collect::<Vec<_>>(), 20, 6);
+    let length = good.len() as u16;
+    let of_length = |(total, header_sum)| {
+        Plan { total_length: Some(total), header_sum, ..plan.clone() }.build()
+    };
+    // shorter than the header or longer than the packet, under a right and a wrong checksum
+    let lengths = (0..20).chain(length + 1..length + 81);
+    let lengths = lengths.flat_map(|total| [(total, Sum::Right), (total, Sum::Given(total))]);
+    must_be_refused(rig, &lengths.map(of_length).collect::<Vec<_>>(), 6, 20);
+    rig.must_serve();
+}
+
+/// All of these must be refused with the one number and none with the other, by the daemon's own metrics.
+fn must_be_refused(rig: &mut Rig, packets: &[Vec<u8>], number: u32, other: u32) {
+    let found = |rig: &Rig| [number, other].map(|number| refused(&rig.counts(), number));
+    let [all, none] = found(rig);
+    rig.send(packets);
+    assert_eq!(found(rig), [all + packets.len() as u64, none]);
 }
 
 /// Packets to other ports, addresses and protocols, and from servers that nobody asked.

@@ -1,9 +1,10 @@
 //! State files that can't be used, or not as they are.
 
 use crate::daemon::Daemon;
+use crate::layouts::numbered;
 use crate::model::{Model, CONFIG};
 use crate::rig::Rig;
-use live::handover::layout::{self, crc32};
+use live::handover::layout;
 use live::handover::snapshot::Snapshot;
 use std::fs;
 use std::path::Path;
@@ -24,14 +25,6 @@ fn changed(good: &[u8], change: impl FnOnce(&mut Snapshot)) -> Vec<u8> {
     layout::bytes_of(&snapshot)
 }
 
-fn of_layout(good: &[u8], layout: u32) -> Vec<u8> {
-    let mut bytes = good[..good.len() - 4].to_vec();
-    bytes[16..20].copy_from_slice(&layout.to_le_bytes());
-    let checksum = crc32(&bytes);
-    bytes.extend(checksum.to_le_bytes());
-    bytes
-}
-
 /// Each is put aside with its reason, and the daemon begins empty with the configuration's weights.
 pub fn bad_files(rig: &mut Rig) {
     let good = good_file(rig);
@@ -41,7 +34,7 @@ pub fn bad_files(rig: &mut Rig) {
         (good[..good.len() / 2].to_vec(), "it is cut or damaged: its checksum is "),
         (Vec::new(), "it is no director's state"),
         (damaged, "it is cut or damaged: its checksum is "),
-        (of_layout(&good, 2), "its layout is 2, and this program's is 1"),
+        (numbered(&good, 3), "its layout is 3, and this program reads 1 and 2"),
         (changed(&good, |other| other.state.servers[0].count += 1), "the library refuses it: "),
         (
             changed(&good, |other| other.counters.idle_removed = u64::MAX),

@@ -227,12 +227,13 @@ pub fn other_users(rig: &mut Rig) {
     fs::set_permissions(&socket, fs::Permissions::from_mode(0o600)).unwrap();
 }
 
-/// Another layout, as a later program would ask for; and lines that are no request.
+/// Another layout, as an earlier or a later program would ask for; and lines that are no request.
 pub fn other_layouts(rig: &mut Rig) {
     for (line, answer) in [
-        ("take-over 2 192.0.2.10:5432 tcp", "layout 2 is asked for, and this program's is 1"),
+        ("take-over 1 192.0.2.10:5432 tcp", "layout 1 is asked for, and this program's is 2"),
+        ("take-over 3 192.0.2.10:5432 tcp", "layout 3 is asked for, and this program's is 2"),
         (
-            "take-over 1 192.0.2.10:5432 udp",
+            "take-over 2 192.0.2.10:5432 udp",
             "the service 192.0.2.10:5432 udp is asked for, and 192.0.2.10:5432 tcp is served here",
         ),
         ("take-over", "expected `take-over LAYOUT ADDRESS:PORT PROTOCOL`"),

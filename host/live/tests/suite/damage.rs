@@ -1,6 +1,5 @@
 //! Seeded damages of a director's bytes.
 
-use live::handover::layout::crc32;
 use random::Rng;
 
 /// Bytes that are damaged in one of six ways, and so are others than they were.
@@ -27,12 +26,4 @@ fn damage(random: &mut Rng, bytes: &mut Vec<u8>) {
         4 => drop(bytes.splice(place..place, random.bytes(length))),
         _ => drop(bytes.drain(place..place + length)),
     }
-}
-
-/// The same bytes under their right checksum, which are the last four.
-pub fn with_right_checksum(mut bytes: Vec<u8>) -> Vec<u8> {
-    bytes.truncate(bytes.len().saturating_sub(4));
-    let checksum = crc32(&bytes);
-    bytes.extend(checksum.to_le_bytes());
-    bytes
 }

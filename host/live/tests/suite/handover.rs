@@ -1,13 +1,13 @@
 //! One process hands its director to the next: both are threads here, at the two ends of a socket.
 
-use crate::damage::with_right_checksum;
+use crate::layouts::numbered;
 use crate::support::*;
 use live::handover::give::give;
 use live::handover::layout;
 use live::handover::request::Request;
 use live::handover::take::{take, Taken};
 use live::handover::{snapshot::Snapshot, PATIENCE};
-use live::system::{self, descriptors};
+use live::system::{self, descriptors, Waited};
 use nidhaaguf::Protocol;
 use std::io::{self, BufRead, BufReader, PipeWriter, Read, Write};
 use std::net::Shutdown;
@@ -17,20 +17,20 @@ use std::sync::mpsc;
 use std::thread::{self, JoinHandle};
 use std::time::{Duration, Instant};
 
-fn request() -> Request {
+pub fn request() -> Request {
     Request::new(("192.0.2.10:5432".parse().unwrap(), Protocol::Tcp))
 }
 
 /// A socket at which a director is asked for, and a device.
-struct Place {
+pub struct Place {
     folder: Folder,
-    listener: UnixListener,
+    pub listener: UnixListener,
     device: UnixDatagram,
     link: UnixDatagram,
 }
 
 impl Place {
-    fn new(name: &str) -> Place {
+    pub fn new(name: &str) -> Place {
         let folder = Folder::new(name);
         let listener = UnixListener::bind(folder.file("sock")).unwrap();
         let (device, link) = UnixDatagram::pair().unwrap();
@@ -38,7 +38,7 @@ impl Place {
     }
 
     /// The next process, which asks in a thread of its own and then does something with what it gets.
-    fn taker<T: Send + 'static>(
+    pub fn taker<T: Send + 'static>(
         &self,
         then: impl FnOnce(Result<Taken, String>) -> T + Send + 'static,
     ) -> JoinHandle<T> {
@@ -48,10 +48,16 @@ impl Place {
 
     /// A stream to the one that asks, whose request is read.
     fn asked(&self) -> UnixStream {
+        self.asked_for(request())
+    }
+
+    /// The same of another request.
+    pub fn asked_for(&self, request: Request) -> UnixStream {
+        let mut asks = [Waited::new(&self.listener, true, false)];
+        system::wait(&mut asks, PATIENCE).unwrap();
+        assert!(asks[0].is_ready(), "nobody asks");
         let (stream, _) = self.listener.accept().unwrap();
-        let mut line = String::new();
-        BufReader::with_capacity(1, &stream).read_line(&mut line).unwrap();
-        assert_eq!(line, request().line());
+        assert_eq!(read_line(&stream), request.line());
         stream
     }
 
@@ -60,13 +66,20 @@ impl Place {
     }
 
     /// What the other end is sent, as by a process of another kind; the pipe's end tells whether it serves on.
-    fn send(&self, stream: &UnixStream, line: &str, bytes: &[u8]) -> PipeWriter {
+    pub fn send(&self, stream: &UnixStream, line: &str, bytes: &[u8]) -> PipeWriter {
         let (word, serves_on) = io::pipe().unwrap();
         let files = [self.device.as_fd(), self.listener.as_fd(), word.as_fd()];
         assert_eq!(descriptors::send(stream, line.as_bytes(), files).unwrap(), line.len());
         (&*stream).write_all(bytes).unwrap();
         serves_on
     }
+}
+
+/// The next line that is said, and nothing after it.
+pub fn read_line(stream: &UnixStream) -> String {
+    let mut line = String::new();
+    BufReader::with_capacity(1, stream).read_line(&mut line).unwrap();
+    line
 }
 
 #[test]
@@ -220,8 +233,6 @@ fn the_pipe_decides_where_nobody_listens() {
 fn what_is_no_director_is_not_taken() {
     let bytes = layout::bytes_of(&small_snapshot());
     let state = format!("state {}\n", bytes.len());
-    let mut other_layout = bytes.clone();
-    other_layout[16] = 2;
     for (line, sent, words) in [
         ("error: no\n", &[][..], ": no"),
         ("ok\n", &[], ": it says \"ok\""),
@@ -230,7 +241,7 @@ fn what_is_no_director_is_not_taken() {
         (&state, &bytes[..99], ": failed to fill whole buffer"),
         ("state 99\n", &bytes[..99], "it is cut or damaged: "),
         ("state 18446744073709551615\n", &bytes, ": failed to fill whole buffer"),
-        (&state, &with_right_checksum(other_layout), "its layout is 2, and this program's is 1"),
+        (&state, &numbered(&bytes, 3), "its layout is 3, and this program reads 1 and 2"),
     ] {
         let place = Place::new("no-director");
         let taker = place.taker(|taken| taken.map(|_| ()));

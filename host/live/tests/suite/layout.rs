@@ -1,6 +1,7 @@
 //! A director as bytes, and back.
 
-use crate::damage::{damaged, with_right_checksum};
+use crate::damage::damaged;
+use crate::layouts::{numbered, with_right_checksum};
 use crate::support::*;
 use live::control::{metrics, status};
 use live::handover::layout::{bytes_of, crc32, read, LAYOUT, MOST_BYTES};
@@ -10,9 +11,6 @@ use random::Rng;
 use std::time::Duration;
 
 const DAMAGES: usize = 10_000;
-
-/// The layout's number comes after the mark.
-const LAYOUT_PLACE: usize = 16;
 
 fn complaint(bytes: &[u8]) -> String {
     read(bytes).expect_err("bytes that no director has")
@@ -98,12 +96,11 @@ fn every_damage_is_refused() {
 }
 
 #[test]
-fn another_layout_is_told_with_both_numbers() {
+fn another_layout_is_told_with_those_that_are_read() {
+    let bytes = bytes_of(&small_snapshot());
     for layout in [0, LAYOUT + 1, u32::MAX] {
-        let mut bytes = bytes_of(&small_snapshot());
-        bytes[LAYOUT_PLACE..LAYOUT_PLACE + 4].copy_from_slice(&layout.to_le_bytes());
-        let words = format!("its layout is {layout}, and this program's is {LAYOUT}");
-        assert_eq!(complaint(&with_right_checksum(bytes)), words);
+        let words = format!("its layout is {layout}, and this program reads 1 and 2");
+        assert_eq!(complaint(&numbered(&bytes, layout)), words);
     }
 }
 

@@ -6,8 +6,11 @@ mod commands;
 mod config;
 mod connection;
 mod damage;
+mod earlier_layout;
 mod handover;
 mod layout;
+#[path = "../shared/layouts.rs"]
+mod layouts;
 mod log;
 mod packet_thread;
 mod packets;

@@ -40,6 +40,8 @@ fn answers_are_counted_by_way() {
         (packets::tcp(client, VIRTUAL, ACK).build(), false),
         (packets::tcp(SERVER, client, ACK).build(), false),
         (vec![0; 7], false),
+        (with_a_turned_bit(packets::tcp(client, VIRTUAL, SYN).build()), false),
+        (with_a_turned_bit(packets::tcp(SERVER, client, ACK).build()), false),
     ] {
         assert_eq!(pass(&mut instance, &packet).is_some(), passes, "{packet:?}");
     }
@@ -50,9 +52,10 @@ fn answers_are_counted_by_way() {
     assert_eq!(counters.accepted(Way::Inbound, Change::Kept), 0);
     for (way, _) in WAYS {
         assert_eq!(counters.refused(way, Refusal::NoConnection), 1);
+        assert_eq!(counters.refused(way, Refusal::BadChecksum), 1);
     }
     assert_eq!(counters.refused(Way::Inbound, Refusal::MalformedHeader), 1);
-    let line = "inbound 1 opened, 0 kept, 1 ended, 2 refused; outbound 0 opened, 1 kept, 0 ended, 1 refused; \
+    let line = "inbound 1 opened, 0 kept, 1 ended, 3 refused; outbound 0 opened, 1 kept, 0 ended, 2 refused; \
                 0 removed as idle; 0 not taken by the device";
     assert_eq!(instance.counters().to_string(), line);
 }

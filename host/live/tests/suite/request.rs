@@ -1,7 +1,6 @@
 //! What the next process asks for.
 
 use crate::support::*;
-use live::handover::layout::LAYOUT;
 use live::handover::request::Request;
 use nidhaaguf::Protocol;
 
@@ -12,7 +11,7 @@ fn request() -> Request {
 #[test]
 fn requests_are_lines() {
     let request = request();
-    assert_eq!(request.line(), "take-over 1 192.0.2.10:5432 tcp\n");
+    assert_eq!(request.line(), "take-over 2 192.0.2.10:5432 tcp\n");
     assert_eq!(Request::read(&request.line()), Some(Ok(request)));
     let other = Request { layout: u32::MAX, protocol: Protocol::Udp, ..request };
     assert_eq!(Request::read(&other.line()), Some(Ok(other)));
@@ -46,10 +45,8 @@ fn requests_for_another_director_are_refused() {
     let served = "is asked for, and 192.0.2.10:5432 tcp is served here";
     let service = "192.0.2.10:5433".parse().unwrap();
     for (other, words) in [
-        (
-            Request { layout: 2, ..request },
-            format!("layout 2 is asked for, and this program's is {LAYOUT}"),
-        ),
+        (Request { layout: 1, ..request }, "layout 1 is asked for, and this program's is 2".into()),
+        (Request { layout: 3, ..request }, "layout 3 is asked for, and this program's is 2".into()),
         (Request { service, ..request }, format!("the service 192.0.2.10:5433 tcp {served}")),
         (
             Request { protocol: Protocol::Udp, ..request },
@@ -57,5 +54,23 @@ fn requests_for_another_director_are_refused() {
         ),
     ] {
         assert_eq!(other.check(&instance), Err(words));
+    }
+}
+
+/// A program of layout 1 says so in these words, and is asked for that one; nobody else is.
+#[test]
+fn a_refusal_for_the_layout_alone_is_followed_by_another_request() {
+    let request = request();
+    let refused = "layout 2 is asked for, and this program's is 1";
+    assert_eq!(request.earlier(refused), Some(Request { layout: 1, ..request }));
+    for other in [
+        "layout 2 is asked for, and this program's is 3",
+        "layout 2 is asked for, and this program's is 2",
+        "layout 2 is asked for, and this program's is 11",
+        "layout 3 is asked for, and this program's is 1",
+        "the service 192.0.2.10:5432 udp is asked for, and 192.0.2.10:5432 tcp is served here",
+        "",
+    ] {
+        assert_eq!(request.earlier(other), None, "{other}");
     }
 }

@@ -53,6 +53,12 @@ pub fn reset(port: u16) -> Vec<u8> {
     packets::tcp((0x0A00_0001, port), VIRTUAL, RST).build()
 }
 
+/// The packet with a bit of its header turned: its checksum is wrong, and nothing else.
+pub fn with_a_turned_bit(mut packet: Vec<u8>) -> Vec<u8> {
+    packet[8] ^= 1;
+    packet
+}
+
 /// Hands a packet to the instance as its device would, and gives what it writes to it.
 pub fn pass(instance: &mut Instance, packet: &[u8]) -> Option<Vec<u8>> {
     let (link, device) = UnixDatagram::pair().unwrap();

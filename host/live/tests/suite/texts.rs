@@ -46,6 +46,7 @@ fn metrics_tell_the_counts() {
     for length in [30, 3] {
         assert_eq!(pass(&mut instance, &vec![0; length]), None);
     }
+    assert_eq!(pass(&mut instance, &with_a_turned_bit(syn(1))), None);
     instance.set_weight(2, 0).unwrap();
     fail_to_write(&mut instance);
     instance.tick(Duration::from_secs(100));
@@ -61,6 +62,8 @@ fn metrics_tell_the_counts() {
         "nidhaaguf_packets_total{way=\"inbound\",answer=\"kept\"} 2",
         "nidhaaguf_refusals_total{way=\"inbound\",number=\"6\",reason=\"the packet's IPv4 header is malformed\"} 1",
         "nidhaaguf_refusals_total{way=\"outbound\",number=\"6\",reason=\"the packet's IPv4 header is malformed\"} 1",
+        "nidhaaguf_refusals_total{way=\"inbound\",number=\"20\",reason=\"the packet's header checksum is not valid\"} 1",
+        "nidhaaguf_refusals_total{way=\"outbound\",number=\"20\",reason=\"the packet's header checksum is not valid\"} 0",
         "nidhaaguf_write_failures_total 1",
         "nidhaaguf_idle_removed_total 0",
     ] {
@@ -76,6 +79,18 @@ fn fail_to_write(instance: &mut Instance) {
     link.send(&syn(1)).unwrap();
     drop(link);
     assert_eq!(instance.serve(&device, &mut [0; 2_048], 1).unwrap().unsent, 1);
+}
+
+/// Each refusal that packets can have is told under its number, each way; no other number is.
+#[test]
+fn metrics_tell_each_refusal_of_packets() {
+    let text = metrics::text(&instance());
+    for way in ["inbound", "outbound"] {
+        let before = format!("nidhaaguf_refusals_total{{way=\"{way}\",number=\"");
+        let after = text.lines().filter_map(|line| line.strip_prefix(&before));
+        let numbers: Vec<_> = after.map(|line| line.split('"').next().unwrap()).collect();
+        assert_eq!(numbers.join(" "), "6 7 8 9 10 11 12 13 14 15 20", "{way}");
+    }
 }
 
 /// Each metric has its HELP and TYPE once, before its samples, and each sample is a name, labels and a number.

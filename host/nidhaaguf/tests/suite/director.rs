@@ -60,6 +60,9 @@ fn refusals_leave_the_packet_and_some_take_the_clock() {
     assert_eq!(director.inbound(&mut [], 6), Err(Refusal::MalformedHeader));
     assert_eq!(director.inbound(&mut fin[..39], 6), Err(Refusal::MalformedHeader));
     assert_eq!(director.outbound(&mut fin, 6), Err(Refusal::OtherEndpoint));
+    // a bit of the time to live
+    fin[8] ^= 1;
+    assert_eq!(director.inbound(&mut fin, 6), Err(Refusal::BadChecksum));
     assert_eq!(director.clock(), 5);
     director.set_weight(0, 0).unwrap();
     assert_eq!(director.inbound(&mut SYN.clone(), 6), Err(Refusal::NoWeight));
@@ -108,7 +111,9 @@ fn refusals_by_number() {
         assert_eq!(refusal.to_string(), format!("{} ({number})", refusal.words()));
     }
     assert!(Refusal::ALL.is_sorted_by_key(|refusal| refusal.number()));
-    assert_eq!((Refusal::of_number(0), Refusal::of_number(u32::MAX)), (None, None));
+    for number in [0, 16, 17, 18, 19, 21, u32::MAX] {
+        assert_eq!(Refusal::of_number(number), None);
+    }
 }
 
 #[test]

@@ -101,5 +101,12 @@ fn counters_have_names() {
     serve(&mut director, &device, &mut counters, 1).unwrap();
     assert_eq!(counters.refused(Way::Inbound, Refusal::NoConnection), 1);
     assert_eq!(counters.refused(Way::Outbound, Refusal::OtherEndpoint), 1);
-    assert_eq!((counters.taken(Way::Inbound), counters.taken(Way::Outbound)), (4, 1));
+    for mut packet in [SYN, turned(SYN), turned(SYN)] {
+        packet[8] ^= 1;
+        other_end.send(&packet).unwrap();
+    }
+    serve(&mut director, &device, &mut counters, 1).unwrap();
+    assert_eq!(counters.refused(Way::Inbound, Refusal::BadChecksum), 1);
+    assert_eq!(counters.refused(Way::Outbound, Refusal::BadChecksum), 2);
+    assert_eq!((counters.taken(Way::Inbound), counters.taken(Way::Outbound)), (5, 3));
 }

@@ -132,9 +132,9 @@ fn check_packet(
         return wrong_kind(answer);
     }
     let Some(reading) = reading::read(packet, &settings, way) else {
-        // one of 6 to 10 falls: the order doesn't come to 11 and beyond
+        // one of 6, 20 and 7 to 10 falls: the order doesn't come to 11 and beyond
         let early = matches!(answer, Answer::Refused(number) if BEFORE_CLOCK.contains(&number));
-        return ensure(early, || format!("6 to 10 were passed over: answered {answer:?}"));
+        return ensure(early, || format!("one of 6, 20 and 7 to 10 was due: answered {answer:?}"));
     };
     check_11(book, clock, answer)?;
     if matches!(answer, Answer::Refused(refusal::CLOCK | refusal::UNSOUND)) {

@@ -53,10 +53,10 @@ fn end(address: &[u8], port: &[u8]) -> End {
     (number(address) as u32, number(port) as u16)
 }
 
-/// The packet where the order comes to 11, or None where one of 6 to 10 falls before.
+/// The packet where the order comes to 11, or None where one of 6, 20 and 7 to 10 falls before.
 pub fn read(packet: &[u8], settings: &Settings, way: Way) -> Option<Reading> {
     let (head, payload) = split(packet)?;
-    // 6: the header's words, checksum included, must come to FFFF
+    // 20: the header's words, checksum included, must come to FFFF
     if ones_sum(head) != 0xFFFF {
         return None;
     }
@@ -81,7 +81,7 @@ pub fn ends(packet: &[u8]) -> Option<(End, End)> {
     Some((source, destination))
 }
 
-/// 6, all but the checksum: the header with its options, and the payload.
+/// 6: the header with its options, and the payload.
 fn split(packet: &[u8]) -> Option<(&[u8], &[u8])> {
     let fixed = packet.get(..20)?;
     let length = match fixed[0] {

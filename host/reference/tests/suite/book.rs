@@ -192,15 +192,20 @@ fn wrong_server_and_wrong_journey() {
 }
 
 #[test]
-fn a_packet_that_6_to_10_refuse_is_answered_before_11() {
-    let packet = packets::tcp(client(0), (1, 1), ACK).build();
-    let call = Call::Inbound { packet: &packet, clock: 0 };
-    for number in [11, 12, 13, 14] {
-        let answer = Answer::Refused(number);
-        assert!(check(&mut open_book(), call, answer, &packet, &[1, 0]).is_err());
+fn a_packet_that_6_20_and_7_to_10_refuse_is_answered_before_11() {
+    let elsewhere = packets::tcp(client(0), (1, 1), ACK).build();
+    let mut bad_checksum = client_plan(TCP, 0, ACK).build();
+    packets::spoil_header(&mut bad_checksum, 0);
+    for (packet, number) in [(elsewhere, 10), (bad_checksum, 20)] {
+        for clock in [0, 10, 2_000] {
+            let call = Call::Inbound { packet: &packet, clock };
+            let is_fine = |answer| check(&mut open_book(), call, answer, &packet, &[1, 0]).is_ok();
+            // 16 is given by nothing
+            let late = [11, 12, 13, 14, 16].map(Answer::Refused);
+            assert!(!is_fine(KEPT) && !late.into_iter().any(is_fine), "{number} at {clock}");
+            assert!(is_fine(Answer::Refused(number)), "{number} at {clock}");
+        }
     }
-    assert!(check(&mut open_book(), call, KEPT, &packet, &[1, 0]).is_err());
-    assert!(check(&mut open_book(), call, Answer::Refused(10), &packet, &[1, 0]).is_ok());
 }
 
 #[test]
@@ -216,6 +221,11 @@ fn other_refusals_change_nothing() {
     assert!(tick(&mut book, 5, Answer::Refused(11), [1, 0]));
     let call = Call::Inbound { packet: &[1, 2], clock: 99 };
     check(&mut book, call, Answer::Refused(6), &[1, 2], &[1, 0]).unwrap();
+    // at 2,000 the entry is idle, but the clock isn't accepted
+    let mut packet = client_plan(TCP, 0, ACK).build();
+    packets::spoil_header(&mut packet, 0);
+    let call = Call::Inbound { packet: &packet, clock: 2_000 };
+    check(&mut book, call, Answer::Refused(20), &packet, &[1, 0]).unwrap();
     assert_eq!(book, before);
 }
 

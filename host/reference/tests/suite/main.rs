@@ -5,6 +5,7 @@ mod checksums;
 mod connections;
 mod editing;
 mod examples;
+mod header_checksum;
 mod idle;
 mod order;
 mod packet_refusals;

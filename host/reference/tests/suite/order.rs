@@ -5,39 +5,51 @@ use reference::data::{TCP, UDP};
 use reference::packets::{self, ACK, SYN};
 use reference::*;
 
-/// An inbound TCP packet that fails 6 to 10 at once.
-fn worst_inbound() -> Vec<u8> {
-    let mut bytes = packets::udp(client(0), (1, 1)).build();
-    bytes[6] = 0x20;
-    bytes
+type PacketCall = fn(&mut Director, &mut [u8], u32) -> Answer;
+type Mend = fn(&mut [u8]);
+
+/// A packet that fails 6, 20 and 7 to 10 at once, and what mends it for the next refusal, one after another.
+fn worst_packet() -> (Vec<u8>, [(Mend, u8); 5]) {
+    let mut bytes = packets::udp((1, 1), (1, 1)).build();
+    (bytes[0], bytes[6]) = (0x55, 0x20);
+    assert!(!packets::header_verifies(&bytes));
+    let mends: [(Mend, u8); 5] = [
+        (|_| {}, 6),
+        (|bytes| bytes[0] = 0x45, 20),
+        (packets::mend_header, 7),
+        (|bytes| set_and_mend(bytes, 6, 0), 8),
+        (|bytes| set_and_mend(bytes, 9, TCP), 9),
+    ];
+    (bytes, mends)
 }
 
-fn mended(mut bytes: Vec<u8>) -> Vec<u8> {
-    packets::mend_header(&mut bytes);
-    bytes
+fn set_and_mend(bytes: &mut [u8], at: usize, value: u8) {
+    bytes[at] = value;
+    packets::mend_header(bytes);
 }
 
-#[test]
-fn packet_order_15_6_7_8_9_10_11_12() {
+/// `stray` belongs to no connection and opens none.
+fn in_order(take: PacketCall, stray: Vec<u8>) {
     let mut director = Director::tcp(&[1], 1);
     director.tick(100);
     let mut unsound = director.clone();
     unsound.state.servers[0].count = 1;
-    let mut bytes = worst_inbound();
-    assert_eq!(unsound.inbound(&mut bytes.clone(), 50), Answer::Refused(15));
-    assert_eq!(director.inbound(&mut bytes.clone(), 50), Answer::Refused(6));
-    bytes = mended(bytes);
-    assert_eq!(director.inbound(&mut bytes.clone(), 50), Answer::Refused(7));
-    bytes[6] = 0;
-    bytes = mended(bytes);
-    assert_eq!(director.inbound(&mut bytes.clone(), 50), Answer::Refused(8));
-    bytes[9] = TCP;
-    bytes = mended(bytes);
-    assert_eq!(director.inbound(&mut bytes.clone(), 50), Answer::Refused(9));
-    let mut stray = packets::tcp(client(0), (1, 1), ACK).build();
-    assert_eq!(director.inbound(&mut stray, 50), Answer::Refused(10));
-    assert_eq!(director.client_sends(0, ACK, 50), Answer::Refused(11));
-    assert_eq!(director.client_sends(0, ACK, 100), Answer::Refused(12));
+    let (mut bytes, mends) = worst_packet();
+    assert_eq!(take(&mut unsound, &mut bytes.clone(), 50), Answer::Refused(15));
+    for (mend, number) in mends {
+        mend(&mut bytes);
+        assert_eq!(take(&mut director, &mut bytes.clone(), 50), Answer::Refused(number));
+    }
+    let mut elsewhere = packets::tcp((1, 1), (1, 1), ACK).build();
+    assert_eq!(take(&mut director, &mut elsewhere, 50), Answer::Refused(10));
+    assert_eq!(take(&mut director, &mut stray.clone(), 50), Answer::Refused(11));
+    assert_eq!(take(&mut director, &mut stray.clone(), 100), Answer::Refused(12));
+}
+
+#[test]
+fn packet_order_15_6_20_7_8_9_10_11_12() {
+    in_order(Director::inbound, client_plan(TCP, 0, ACK).build());
+    in_order(Director::outbound, packets::tcp(server_end(0), client(0), ACK).build());
 }
 
 #[test]

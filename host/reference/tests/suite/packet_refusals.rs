@@ -80,33 +80,6 @@ fn refusal_6_total_length() {
 }
 
 #[test]
-fn refusal_6_header_checksum() {
-    let right = syn().build();
-    for bit in 0..160 {
-        let mut bytes = right.clone();
-        bytes[bit / 8] ^= 0x80 >> (bit % 8);
-        assert_eq!(refused(TCP, &bytes), 6, "bit {bit}");
-    }
-    // the options are under the checksum too
-    let mut bytes = Plan { ip_options: vec![1; 40], ..syn() }.build();
-    assert_eq!(refused(TCP, &bytes), 0);
-    bytes[59] ^= 1;
-    assert_eq!(refused(TCP, &bytes), 6);
-}
-
-#[test]
-fn header_checksums_0000_and_ffff_are_both_valid_where_the_rest_sums_to_ffff() {
-    let mut bytes = syn().build();
-    bytes[4..6].fill(0);
-    bytes[10..12].fill(0);
-    let rest = checksum::fold(checksum::sum(&bytes[..20]));
-    bytes[4..6].copy_from_slice(&(!rest).to_be_bytes());
-    assert_eq!(refused(TCP, &bytes), 0);
-    bytes[10..12].fill(0xFF);
-    assert_eq!(refused(TCP, &bytes), 0);
-}
-
-#[test]
 fn refusal_7_fragments() {
     let words = [
         (0x0000, 0),

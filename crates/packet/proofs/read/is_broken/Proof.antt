@@ -2,11 +2,9 @@
 -- Assumes nothing.
 use native.Mathlib.Omega.{arith}
 use borrow.Author.Tests.{lt-ltb, le-ltb, eq-eqb, ne-eqb}
-use mathlib.Core.Path.{sym}
 use mathlib.Core.Bool.{or-false}
 use lib.ListN.{length, getD}
 use Prim.Native.Nat.{_/_, _%_}
-use lib.Seq.{length-take-le}
 use denote.Ref.{now}
 use Rattle.packet.specs.Reading.{broken}
 use Rattle.packet.specs.Bytes.{headerLength, totalLength}
@@ -53,30 +51,13 @@ returns-4 c =
 returns-5 : tie.Need-returns-5
 unfolding broken
 returns-5 c =
-    let p = now (c .before .before .before .before .before .before .before .before .before .before .args .p) in
+    let p = now (c .before .before .before .before .before .before .before .before .before .args .p) in
     simp (
       le-ltb (length p) 20 (omega arith),
       eq-eqb (getD p 0 0 / 16) 4 (omega arith),
       le-ltb (getD p 0 0 % 16) 5 (omega arith),
       le-ltb (totalLength p) (headerLength p) (omega arith),
-      lt-ltb (length p) (totalLength p) (omega arith),
-    )
-
-slice-aggregate-is-valid : tie.Need-slice-aggregate-is-valid
-slice-aggregate-is-valid c = sym (length-take-le _ _ (omega arith))
-
-returns-6 : tie.Need-returns-6
-unfolding broken
-returns-6 c =
-    let p = now (c .before .before .before .before .before .before .before .before .before .before .before .before .args .p) in
-    simp (
-      le-ltb (length p) 20 (omega arith),
-      eq-eqb (getD p 0 0 / 16) 4 (omega arith),
-      le-ltb (getD p 0 0 % 16) 5 (omega arith),
-      le-ltb (totalLength p) (headerLength p) (omega arith),
-      le-ltb (length p) (totalLength p) (omega arith),
-      c .is-valid .ensures,
-      c .before .before .before .before .before .header-length .ensures,
+      c .before .length-at .ensures,
       or-false,
     )
 
@@ -92,7 +73,4 @@ is-broken-spec =
     (λ c κs. search needs)
     (λ c κs. search needs)
     returns-4
-    returns-5
-    slice-aggregate-is-valid
-    (λ c κs. search needs)
-    returns-6)
+    returns-5)

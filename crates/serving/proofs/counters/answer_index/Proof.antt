@@ -1,4 +1,4 @@
--- `counters::answer_index` meets its contract: refusals go up to 15.
+-- `counters::answer_index` meets its contract: refusals go up to 20.
 -- Assumes nothing.
 use native.Mathlib.Omega.{arith}
 use borrow.Author.Needs.{needs}

@@ -6,8 +6,12 @@ use reference::data::UDP;
 use reference::packets;
 use reference::*;
 
-/// Judges one call's effects. `left` is the packet as it left.
+/// Judges one call's effects; those of packets in a sound state. `left` is the packet as it left.
 pub fn effects(before: &Director, after: &Director, deed: &Deed, answer: Answer, left: &[u8]) {
+    if let Deed::Inbound { packet, .. } | Deed::Outbound { packet, .. } = deed {
+        let told = [6, 20].into_iter().find(|&number| answer == Answer::Refused(number));
+        assert_eq!(told, header_refusal(packet));
+    }
     match (answer, deed) {
         (Answer::Refused(number), Deed::Inbound { clock, .. } | Deed::Outbound { clock, .. })
             if refusal::keeps_clock(number) =>
@@ -44,6 +48,19 @@ pub fn effects(before: &Director, after: &Director, deed: &Deed, answer: Answer,
         (Answer::Done, _) => assert_eq!((total(after), after.state.clock), (0, 0)),
         other => panic!("{other:?}"),
     }
+}
+
+/// 6 and 20 once more, as literally as they are written.
+fn header_refusal(packet: &[u8]) -> Option<u8> {
+    if packet.len() < 20 {
+        return Some(6);
+    }
+    let (version, words) = (packet[0] / 16, usize::from(packet[0] % 16));
+    let total = usize::from(packet[2]) * 256 + usize::from(packet[3]);
+    if version != 4 || words < 5 || total < words * 4 || total > packet.len() {
+        return Some(6);
+    }
+    (!packets::header_verifies(packet)).then_some(20)
 }
 
 fn total(director: &Director) -> u32 {

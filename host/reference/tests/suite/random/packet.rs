@@ -107,8 +107,17 @@ fn transport_sum(rng: &mut Rng, director: &Director) -> Sum {
     }
 }
 
-/// The bytes, one in eight spoiled.
-fn finished(rng: &mut Rng, mut plan: Plan, inbound: bool) -> Vec<u8> {
+/// The bytes, one in eight spoiled, and then perhaps their header checksum as well.
+fn finished(rng: &mut Rng, plan: Plan, inbound: bool) -> Vec<u8> {
+    let mut bytes = with_a_fault(rng, plan, inbound);
+    if rng.permille(20) {
+        packets::spoil_header(&mut bytes, rng.below(16));
+    }
+    bytes
+}
+
+/// The bytes, one in eight with a fault.
+fn with_a_fault(rng: &mut Rng, mut plan: Plan, inbound: bool) -> Vec<u8> {
     match rng.below(120) {
         0 => plan.version = Some(rng.below(16) as u8),
         1 => plan.header_words = Some(rng.below(16) as u8),
