@@ -2,6 +2,7 @@
 
 mod bursts;
 mod director;
+mod header;
 mod resumes;
 mod serves;
 mod signals;
