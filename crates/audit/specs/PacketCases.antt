@@ -1,5 +1,5 @@
--- Refusals 6 to 10 and 20, of packets, in calls that are one number apart (SCOPE 4.6 to 4.10, 4.20). Header checksums are right but where they are the reason, and
--- no packet has two reasons but where a comment says so. Assumes nothing: these are definitions.
+-- Refusals 6 to 10 and 20, of packets, in calls that are one number apart (SCOPE 4.6 to 4.10, 4.20). Header checksums are right but where they are the
+-- reason, and no packet has two reasons but where a comment says so. Assumes nothing: these are definitions.
 use Prim.Native.Nat.{ℕ}
 use mathlib.Core.List.{List, [], _∷_, _++_}
 use lib.ListN.{take}

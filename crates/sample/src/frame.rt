@@ -10,7 +10,7 @@ pub const RST: u8 = 4;
 
 pub const ACK: u8 = 16;
 
-// Writes a 16-bit number, the high byte first.
+// Writes a 16-bit number, the highest byte first.
 fn put_word(p: &mut [u8; 40], at: usize, w: u16)
     requires { ⌜ at + 1 < 40 ⌝ }
 {
@@ -18,12 +18,12 @@ fn put_word(p: &mut [u8; 40], at: usize, w: u16)
     p[at + 1] = (w % 256) as u8;
 }
 
-// Writes an address, or any other 32 bits, the highest byte first.
-pub fn put_address(p: &mut [u8; 40], at: usize, address: u32)
+// Writes a 32-bit number, the highest byte first.
+pub fn put_u32(p: &mut [u8; 40], at: usize, number: u32)
     requires { ⌜ at + 3 < 40 ⌝ }
 {
-    put_word(p, at, (address / 65536) as u16);
-    put_word(p, at + 2, (address % 65536) as u16);
+    put_word(p, at, (number / 65536) as u16);
+    put_word(p, at + 2, (number % 65536) as u16);
 }
 
 // An IPv4 header before TCP, its checksum 0, and zeros behind it.
@@ -33,8 +33,8 @@ fn header(source: u32, destination: u32) -> [u8; 40] {
     p[3] = 40;
     p[8] = 64;
     p[9] = 6;
-    put_address(&mut p, 12, source);
-    put_address(&mut p, 16, destination);
+    put_u32(&mut p, 12, source);
+    put_u32(&mut p, 16, destination);
     p
 }
 

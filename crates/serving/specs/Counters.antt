@@ -1,4 +1,5 @@
--- Counters of answers: 46 numbers, 23 for each way, so that each refusal up to 20 has its place, also one that no call gives. Assumes nothing: these are definitions.
+-- Counters of answers: 46 numbers, 23 for each way, so that each refusal up to 20 has its place, also a number that no call gives.
+-- Assumes nothing: these are definitions.
 use Prim.Native.Nat.{ℕ, _+_, _%_, _^_}
 use mathlib.Core.List.{List}
 use lib.ListN.{getD, set}

@@ -5,16 +5,16 @@ use director::state::Director;
 use sample::begin::CLIENT;
 use sample::begin::VIRTUAL;
 use sample::frame::SYN;
-use sample::frame::put_address;
+use sample::frame::put_u32;
 use sample::frame::tcp;
 use sample::print::told;
 
 // P11's packet, with the first three words of its header given.
 fn p11(lengths: u32, fragments: u32, checked: u32) -> [u8; 40] {
     let mut p = tcp(CLIENT, 40000, VIRTUAL, 5432, SYN);
-    put_address(&mut p, 0, lengths);
-    put_address(&mut p, 4, fragments);
-    put_address(&mut p, 8, checked);
+    put_u32(&mut p, 0, lengths);
+    put_u32(&mut p, 4, fragments);
+    put_u32(&mut p, 8, checked);
     p[36] = 0x32;
     p[37] = 0x5F;
     p
