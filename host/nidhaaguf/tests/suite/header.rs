@@ -2,24 +2,22 @@
 
 use nidhaaguf::raw::COUNTERS;
 use nidhaaguf::{Change, Counters, Refusal, Way};
+use programs::BASH;
 use std::fmt::Write;
-use std::path::Path;
-use std::process::{self, Command};
+
+/// Compiles header.c of the folder that it is given, and runs it.
+const COMPILE_AND_RUN: &str = r#"
+    set -eu
+    program=$(mktemp)
+    trap 'rm -f "$program"' EXIT
+    cc -std=c11 -Wall -Wextra -Werror -I "$1/../../include" "$1/tests/suite/header.c" -o "$program"
+    "$program"
+"#;
 
 /// What the C program prints.
 fn printed() -> String {
-    let crate_folder = Path::new(env!("CARGO_MANIFEST_DIR"));
-    let program = std::env::temp_dir().join(format!("nidhaaguf-header-{}", process::id()));
-    let compiled = Command::new("cc")
-        .args(["-std=c11", "-Wall", "-Wextra", "-Werror", "-I"])
-        .arg(crate_folder.join("../../include"))
-        .arg(crate_folder.join("tests/suite/header.c"))
-        .arg("-o")
-        .arg(&program)
-        .status();
-    assert!(compiled.expect("cc").success());
-    let output = Command::new(&program).output().expect("the program");
-    std::fs::remove_file(&program).expect("the program");
+    let output = BASH.run(&["-c", COMPILE_AND_RUN, "bash", env!("CARGO_MANIFEST_DIR")]);
+    assert!(output.status.success(), "{}", String::from_utf8_lossy(&output.stderr));
     String::from_utf8(output.stdout).expect("a text")
 }
 
