@@ -144,7 +144,7 @@ one-segment m m′ e = cc
 picked-right : (d : Director) (row : List ℕ) → Sound d row → (k : ℕ) (i : ServerNo) (walk : Walk) → Opening d (slots row) k (i .0) walk
     → Published (d .service .scheduler) (d .servers) (d .service .servers) (d .walk) i walk
 picked-right d row sound k i walk new =
-    published (d .service .scheduler) (d .servers) (d .service .servers) (d .walk) i walk (sound .settings .some) (sound .range) (new .picked)
+    published (d .service .scheduler) (d .servers) (d .service .servers) (d .walk) i walk (sound .settings .some) (sound .range) (rw (sound .weights) at (new .picked))
 
 module _ (way : Way) (d : Director) (row p : List ℕ) (now : ℕ) (fits : EndsFit (d .service) (d .servers)) (bytes : Bytes p) where
   abbrev Goal : Result → Type 0

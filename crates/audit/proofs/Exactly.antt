@@ -132,7 +132,8 @@ carried-number d x m (Decision.Renew old k i walk) = refl
 -- nobody is picked exactly where every weight is 0
 nobody : (d : Director) (row : List ℕ) → Sound d row → nobodyPicked (nextPick d) ≡ noWeight (d .servers) (d .service .servers)
 nobody d row sound =
-    pick-nobody (d .service .scheduler) (d .servers) (d .service .servers) (d .walk) (scheduler-known (d .service) (sound .settings .right)) (sound .range)
+    rw (sound .weights)
+    (pick-nobody (d .service .scheduler) (d .servers) (d .service .servers) (d .walk) (scheduler-known (d .service) (sound .settings .right)) (sound .range))
 
 on-pick : (make : ServerNo → Walk → Decision) → ((i : ServerNo) (walk : Walk) → decisionNumber (make i walk) ≡ 0)
     → (p : Picked) → decisionNumber (onPick make p) ≡ cond (nobodyPicked p) 14 0

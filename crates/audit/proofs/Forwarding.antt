@@ -5,6 +5,7 @@ use Rattle.lists.specs.Tests.{countOf, allOf}
 use Rattle.checksum.specs.Ones.{edited}
 use Rattle.packet.specs.Reading.{broken, fragment, tcpMalformed, udpMalformed, readPacket}
 use Rattle.packet.specs.Redirect.{headerEdited, sumWritten, transportEdited, redirected}
+use Rattle.scheduler.specs.Weights.{euclid, gcdOf}
 use Rattle.table.specs.Slots.{slots, words}
 use Rattle.table.specs.Find.{firstFrom}
 use Rattle.table.specs.Expire.{cleared, loweredBy}
@@ -16,5 +17,5 @@ use Rattle.director.specs.Packets.{routed, packetHeld, packetOf}
 use Rattle.audit.specs.Forwarding.{Forwarding}
 
 pub forwarding : Forwarding
-unfolding foldBelow allBelow countOf allOf edited broken fragment tcpMalformed udpMalformed readPacket headerEdited sumWritten transportEdited redirected slots words firstFrom cleared loweredBy countsAre settingsJudged partsSound soundOf segmentRead decided routed packetHeld packetOf
+unfolding foldBelow allBelow countOf allOf edited broken fragment tcpMalformed udpMalformed readPacket headerEdited sumWritten transportEdited redirected euclid gcdOf slots words firstFrom cleared loweredBy countsAre settingsJudged partsSound soundOf segmentRead decided routed packetHeld packetOf
 forwarding = record { packets = refl; checksums = refl }

@@ -17,7 +17,7 @@ use Rattle.scheduler.specs.ByNumber.{inRange, pickOf}
 use Rattle.scheduler.specs.LeastLoaded.{leastOf, stayedAt, pickLeast}
 use Rattle.scheduler.specs.RoundRobin.{roundRobin}
 use Rattle.scheduler.specs.Ring.{nextOf, ringOf}
-use Rattle.scheduler.specs.Weights.{weightsGcd, largestOf}
+use Rattle.scheduler.specs.Weights.{weightsGcd, largestOf, weightsOf}
 use Rattle.scheduler.specs.WeightedRoundRobin.{levelAt, reaches}
 use Rattle.scheduler.specs.Laws.{Within, NextFound, IsNext, FirstFound, IsFirst, LeastFound, IsLeast}
 use Rattle.scheduler.proofs.Ranges.{place-in-range}
@@ -30,12 +30,12 @@ nobody : (i : ServerNo) (w : Walk) → Picked.Nobody ≡ Picked.Server i w → �
 nobody i w e = let z : _≡_ {A = ℕ} 0 1 = cc in omega arith
 
 module _ (k : ℕ) (s : List Server) (n : ℕ) (w : Walk) (i : ServerNo) (w′ : Walk) (some : 0 < n) (range : inRange k s n w ≡ true)
-    (picked : pickOf k s n w ≡ Picked.Server i w′) where
+    (picked : pickOf k s n (weightsOf s n) w ≡ Picked.Server i w′) where
   next-picked : k ≡ 1 → (last : ServerNo) → w .place ≡ Place.At last → IsNext s n (last .0) (i .0)
   next-picked e last at =
       let here : last .0 < n = subst (Within n) at (place-in-range k s n w some range) in
-      let pick : roundRobin .pick s n (record { place = Place.At last; level = w .level }) ≡ Picked.Server i w′ = rw (e, at) at picked in
-      subst (NextFound s n (last .0)) pick (round-robin-next s n last (w .level) here)
+      let pick : roundRobin .pick s n (weightsOf s n) (record { place = Place.At last; level = w .level }) ≡ Picked.Server i w′ = rw (e, at) at picked in
+      subst (NextFound s n (last .0)) pick (round-robin-next s n (weightsOf s n) last (w .level) here)
 
   first-picked : k ≡ 2 → IsFirst (levelAt (weightsGcd s n) (largestOf s n)) (reaches s) n n (nextOf n (w .place)) (w .level) i w′
   first-picked e =

@@ -39,6 +39,7 @@ refusals = record {
   settings = refl;
   slot = refl;
   walk = refl;
+  held = refl;
   call = refl;
   setup-order = refl;
   call-order = refl;

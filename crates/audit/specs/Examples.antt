@@ -8,6 +8,7 @@ use Rattle.servers.specs.declared.Server.{Server}
 use Rattle.scheduler.specs.declared.walk.Place.{Place}
 use Rattle.scheduler.specs.declared.walk.Walk.{Walk}
 use Rattle.scheduler.specs.declared.walk.Picked.{Picked}
+use Rattle.scheduler.specs.Weights.{weightsOf}
 use Rattle.scheduler.specs.ByNumber.{startOf, pickOf}
 use Rattle.director.specs.declared.state.Director.{Director}
 use Rattle.director.specs.declared.state.Way.{Way}
@@ -30,7 +31,7 @@ follow Picked.Nobody rest = []
 -- the servers picked by m openings in a row, from a walk on
 abbrev pub picks : ℕ → List Server → ℕ → Walk → List ℕ
 picks k s zero w = []
-picks k s (suc m) w = follow (pickOf k s (length s) w) (picks k s m)
+picks k s (suc m) w = follow (pickOf k s (length s) (weightsOf s (length s)) w) (picks k s m)
 
 -- the same from the walk's start
 abbrev pub picksOf : ℕ → List Server → ℕ → List ℕ
@@ -51,11 +52,16 @@ abbrev pub listed : List Server → List ℕ
 listed [] = []
 listed (v ∷ servers) = v .address ∷ v .port ∷ v .weight ∷ v .count ∷ listed servers
 
--- a state in numbers: the service, the servers, the walk, the clock
+-- a state in numbers: the service, the servers, what it holds of their weights, the walk, the clock
 abbrev pub stated : Director → List ℕ
 stated d =
     let g = d .service in
-    (g .address ∷ g .port ∷ g .protocol ∷ g .scheduler ∷ g .servers ∷ []) ++ listed (d .servers) ++ walked (d .walk) ++ (d .clock ∷ [])
+    let held = d .weights in
+    (g .address ∷ g .port ∷ g .protocol ∷ g .scheduler ∷ g .servers ∷ [])
+    ++ listed (d .servers)
+    ++ (held .largest ∷ held .divisor ∷ [])
+    ++ walked (d .walk)
+    ++ (d .clock ∷ [])
 
 -- all that a call settles, in numbers: its answer, the state, the row, the packet
 abbrev pub settled : Result → List ℕ
@@ -113,13 +119,14 @@ table =
     -- stored; the first slot has the connection
     ∷ record {
       given = settled (called (begun 1) (packet Way.Inbound p11-in 100));
-      -- the answer, the service, two servers and 62 unused places, the walk, the clock, two slots, the packet
+      -- the answer, the service, two servers and 62 unused places, the largest weight and the divisor, the walk, the clock, two slots, the packet
       printed =
           opened 0
           ++ (0xC000020A ∷ 5432 ∷ 6 ∷ 1 ∷ 2 ∷ [])
           ++ (0x0A010005 ∷ 6432 ∷ 1 ∷ 1 ∷ [])
           ++ (0x0A010006 ∷ 6433 ∷ 1 ∷ 0 ∷ [])
           ++ replicate 248 0
+          ++ (1 ∷ 1 ∷ [])
           ++ (1 ∷ 0 ∷ [])
           ++ (100 ∷ [])
           ++ (1 ∷ 0x0A000001 ∷ 40000 ∷ 0 ∷ 100 ∷ [])

@@ -4,7 +4,7 @@ use Rattle.audit.specs.Cases.{Hold}
 use Rattle.audit.specs.SetupCases.{setupCases}
 use Rattle.audit.specs.PacketCases.{headerCases, lengthCases, checksumCases, fragmentCases, protocolCases, transportCases, endpointCases}
 use Rattle.audit.specs.ConnectionCases.{numberCases, clockCases, openingCases, belongingCases, idleCases, fullCases, weightCases}
-use Rattle.audit.specs.SoundnessCases.{settingsCases, slotCases, walkCases, callCases}
+use Rattle.audit.specs.SoundnessCases.{settingsCases, slotCases, walkCases, heldCases, callCases}
 use Rattle.audit.specs.OrderCases.{setupOrderCases, callOrderCases}
 
 -- what the rules give is what is printed, in every case of every group
@@ -40,6 +40,7 @@ pub record Refusals : Type 0 where
   pub settings : Hold settingsCases
   pub slot : Hold slotCases
   pub walk : Hold walkCases
+  pub held : Hold heldCases
   pub call : Hold callCases
   -- which of two
   pub setup-order : Hold setupOrderCases

@@ -4,7 +4,9 @@ use mathlib.Core.List.{List, [], _∷_, _++_}
 use lib.ListN.{length, replicate}
 use Rattle.servers.specs.declared.Server.{Server}
 use Rattle.servers.specs.Servers.{unused}
+use Rattle.scheduler.specs.declared.weights.Weights.{Weights}
 use Rattle.scheduler.specs.declared.walk.Walk.{Walk}
+use Rattle.scheduler.specs.Weights.{weightsOf}
 use Rattle.scheduler.specs.ByNumber.{startOf}
 use Rattle.table.specs.declared.slot.Slot.{Slot}
 use Rattle.table.specs.Slots.{slotOf, freeSlot, words}
@@ -30,9 +32,14 @@ array servers = servers ++ replicate (64 - length servers) unused
 abbrev pub twoServers : (weight0 count0 weight1 count1 : ℕ) → List Server
 twoServers weight0 count0 weight1 count1 = array (serverOf 0x0A010005 6432 weight0 count0 ∷ serverOf 0x0A010006 6433 weight1 count1 ∷ [])
 
+-- with what it holds of the weights
+abbrev pub stateHolding : Weights → Service → List Server → Walk → ℕ → List ℕ → State
+stateHolding held service servers walk clock row =
+    record { director = record { service = service; servers = servers; weights = held; walk = walk; clock = clock }; row = row }
+
+-- holding what the weights give
 abbrev pub stateOf : Service → List Server → Walk → ℕ → List ℕ → State
-stateOf service servers walk clock row =
-    record { director = record { service = service; servers = servers; walk = walk; clock = clock }; row = row }
+stateOf service servers walk clock row = stateHolding (weightsOf servers (service .servers)) service servers walk clock row
 
 -- a state that is not sound, over a row of that many words
 abbrev pub unsound : (words : ℕ) → State

@@ -1,4 +1,4 @@
--- Refusal 15: each clause of soundness (SCOPE 6.1 to 6.7) in a sound state and in nearest states that are not. Assumes nothing: these are definitions.
+-- Refusal 15: each clause of soundness (SCOPE 6.1 to 6.7, 6.9) in a sound state and in nearest states that are not. Assumes nothing: these are definitions.
 use Prim.Native.Nat.{ℕ}
 use mathlib.Core.List.{List, [], _∷_}
 use lib.ListN.{replicate, set}
@@ -11,7 +11,7 @@ use Rattle.table.specs.Slots.{slotOf, freeSlot, words}
 use Rattle.director.specs.declared.state.Service.{Service}
 use Rattle.audit.specs.Calls.{Call, setUp, setWeight, count, tick, State}
 use Rattle.audit.specs.Cases.{Case, each, refusal}
-use Rattle.audit.specs.Samples.{serverOf, serviceOf, array, twoServers, stateOf, stateWith, connection, ack, fromClient, fromServer0}
+use Rattle.audit.specs.Samples.{serverOf, serviceOf, array, twoServers, stateHolding, stateOf, stateWith, connection, ack, fromClient, fromServer0}
 use Rattle.audit.specs.SetupCases.{manyServers}
 
 -- what a count call of server 0 is refused with
@@ -108,6 +108,28 @@ walkCases =
     ∷ each (walkRefusal 3) ((start 0, 15) ∷ (at 0 0, 0) ∷ (at 1 0, 15) ∷ (at 0 1, 15) ∷ [])
     ∷ each (walkRefusal 4) ((start 0, 15) ∷ (at 0 0, 0) ∷ (at 1 0, 15) ∷ (at 0 1, 15) ∷ [])
     ∷ []
+
+-- "the largest weight and the divisor (2.12) agree with the weights, whatever the scheduler" (SCOPE 6.9): two weights, and what is held of them
+abbrev pub heldRefusal : (scheduler weight0 weight1 : ℕ) → ℕ × ℕ → ℕ
+heldRefusal scheduler weight0 weight1 held =
+    stateRefusal
+    (stateHolding (record { largest = held .0; divisor = held .1 }) (serviceOf 6 scheduler 2) (twoServers weight0 0 weight1 0) (startOf scheduler 2) 100
+    (words (freeSlot ∷ [])))
+
+abbrev pub heldCases : List Case
+heldCases =
+    each (heldRefusal 1 6 4) ofSixAndFour
+    ∷ each (heldRefusal 2 6 4) ofSixAndFour
+    ∷ each (heldRefusal 3 6 4) ofSixAndFour
+    ∷ each (heldRefusal 4 6 4) ofSixAndFour
+    -- "zeros don't affect it" (SCOPE 10.5); "both are 0 when all weights are 0" (SCOPE 2.12)
+    ∷ each (heldRefusal 2 0 4) (((4, 4), 0) ∷ ((4, 0), 15) ∷ ((4, 1), 15) ∷ ((0, 4), 15) ∷ [])
+    ∷ each (heldRefusal 2 0 0) (((0, 0), 0) ∷ ((0, 1), 15) ∷ ((1, 0), 15) ∷ ((1, 1), 15) ∷ [])
+    ∷ []
+  where
+    ofSixAndFour : List ((ℕ × ℕ) × ℕ)
+    ofSixAndFour =
+        ((6, 2), 0) ∷ ((5, 2), 15) ∷ ((7, 2), 15) ∷ ((4, 2), 15) ∷ ((6, 1), 15) ∷ ((6, 3), 15) ∷ ((6, 4), 15) ∷ ((6, 6), 15) ∷ ((6, 0), 15) ∷ ((2, 6), 15) ∷ []
 
 -- "all calls but setup" (SCOPE 4.15): a count that is 1, as it should be, and one that is 2
 abbrev pub callCases : List Case

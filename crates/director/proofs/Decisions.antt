@@ -158,7 +158,8 @@ module _ (d : Director) (row : List ℕ) (sound : Sound d row) (Goal : Decision 
   by-room Found.Nothing e = full e
   by-room (Found.At k) e =
       by-pick k (found-lowest isUnused (slots row) (k .0) e) (nextPick d) refl
-      (pick-found (d .service .scheduler) (d .servers) (d .service .servers) (d .walk) (scheduler-known (d .service) (sound .settings .right)) (sound .range))
+      (rw (sound .weights)
+      (pick-found (d .service .scheduler) (d .servers) (d .service .servers) (d .walk) (scheduler-known (d .service) (sound .settings .right)) (sound .range)))
 
   opening : Goal (onRoom d make (firstFrom isUnused 0 (slots row)))
   opening = by-room (firstFrom isUnused 0 (slots row)) refl

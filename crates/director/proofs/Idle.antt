@@ -19,7 +19,7 @@ use Rattle.director.proofs.Decisions.{Grounded}
 
 -- the state at another clock
 abbrev pub withClock : Director → ℕ → Director
-withClock d now = record { service = d .service; servers = d .servers; walk = d .walk; clock = now }
+withClock d now = record { service = d .service; servers = d .servers; weights = d .weights; walk = d .walk; clock = now }
 
 module _ (d : Director) (l : List Slot) (now : ℕ) where
   pub settled-same : NoneIdle (d .service .protocol) now l → (settled d l now ≡ withClock d now) × (settledSlots d l now ≡ l)

@@ -41,7 +41,7 @@ new-sound : (g : Service) (given : List Server) (row : List ℕ) → Accepted g 
 new-sound g given row a =
     let n = g .servers in
     let servers = freshServers given n in
-    sound-with g given row a servers _ 0 (zeroed row) (fresh-ends given n (a .most)) (fresh-unused given n 64 (a .most))
+    sound-with g given row a servers _ _ 0 (zeroed row) (fresh-ends given n (a .most)) (fresh-unused given n 64 (a .most)) refl
     (start-in-range (g .scheduler) servers n (a .some))
     (empty-sound row (is-row row (a .whole)) (g .protocol) n 0 servers (λ j h. fresh-count given n j (a .most)))
 
@@ -74,8 +74,8 @@ module _ (d : Director) (row : List ℕ) (sound : soundOf d row ≡ true) where
   weighed-sound k w h =
       let s = sound-parts d row sound in
       let n = d .service .servers in
-      sound-with (d .service) (d .servers) row (s .settings) (withWeight (d .servers) k w) _ (d .clock) row (ends-set (d .servers) k _ n refl refl)
-      (unused-set (d .servers) k _ n 64 h ∙ s .unused)
+      sound-with (d .service) (d .servers) row (s .settings) (withWeight (d .servers) k w) _ _ (d .clock) row (ends-set (d .servers) k _ n refl refl)
+      (unused-set (d .servers) k _ n 64 h ∙ s .unused) refl
       (weight-in-range (d .service .scheduler) (d .servers) n k w (d .walk) (s .range))
       (same-counts (d .service .protocol) n (d .clock) row (d .servers) _ (length-set (d .servers) k _)
       (λ j. field-set (λ (v : Server). v .count) (d .servers) k j _ refl) (s .table))

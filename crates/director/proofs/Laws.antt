@@ -1,5 +1,5 @@
 -- The laws of specs/Laws.antt: over every set of flags and every refusal; the tables by computation. Those of the order are proved beside the
--- calls that they are about. Assumes nothing.
+-- calls that they are about, those of the weights in Weights.antt. Assumes nothing.
 use Prim.Native.Nat.{ℕ, _-_}
 use mathlib.Core.Bool.{Bool, true, false, and-false, false≢true}
 use mathlib.Core.Path.{_≡_, refl}
@@ -19,6 +19,7 @@ use Rattle.director.specs.Laws.{synAlone, refusals, Laws}
 use Rattle.director.proofs.Keeping.{unsound-first}
 use Rattle.director.proofs.Decisions.{full-first, never-full}
 use Rattle.director.proofs.KeepingPackets.{unread-first}
+use Rattle.director.proofs.Weights.{weights-true, weights-judged, weights-left}
 
 abbrev flags : (syn ack rst fin : Bool) → Flags
 flags syn ack rst fin = record { syn = syn; ack = ack; rst = rst; fin = fin }
@@ -72,4 +73,7 @@ laws = record {
   unread-first = unread-first;
   full-first = full-first;
   never-full = never-full;
+  weights-true = weights-true;
+  weights-judged = weights-judged;
+  weights-left = weights-left;
 }

@@ -13,4 +13,5 @@ pub mod Carried
 pub mod KeepingPackets
 pub mod Idle
 pub mod Staying
+pub mod Weights
 pub mod Laws

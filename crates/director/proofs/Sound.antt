@@ -9,7 +9,9 @@ use Rattle.lists.proofs.Cases.{both}
 use Rattle.servers.specs.declared.Server.{Server}
 use Rattle.servers.specs.declared.rules.Rule.{Rule}
 use Rattle.servers.specs.Rules.{allKeep}
+use Rattle.scheduler.specs.Weights.{weightsOf, weightsAgree}
 use Rattle.scheduler.specs.ByNumber.{inRange}
+use Rattle.scheduler.proofs.Held.{weights-agree}
 use Rattle.table.specs.Slots.{slots, words, isRow, IsRow}
 use Rattle.table.specs.Sound.{tableSound}
 use Rattle.table.proofs.Rows.{is-row, words-slots}
@@ -18,6 +20,7 @@ use Rattle.director.specs.declared.state.Director.{Director}
 use Rattle.director.specs.declared.state.Refusal.{Refusal}
 use Rattle.director.specs.declared.judge.Verdict.{Verdict}
 use Rattle.director.specs.Judge.{serviceRight, sizesRight, settingsJudged, isAccepted, partsSound, soundOf}
+use Rattle.director.specs.Control.{numberJudged}
 
 -- settings that refusals 1 to 4 don't name
 pub record Accepted (g : Service) (servers : List Server) (row : List ℕ) : Type 0 where
@@ -32,6 +35,7 @@ pub record Accepted (g : Service) (servers : List Server) (row : List ℕ) : Typ
 pub record Sound (d : Director) (row : List ℕ) : Type 0 where
   pub settings : Accepted (d .service) (d .servers) row
   pub unused : allKeep (Rule.UnusedFrom (d .service .servers)) (d .servers) 64 ≡ true
+  pub weights : d .weights ≡ weightsOf (d .servers) (d .service .servers)
   pub range : inRange (d .service .scheduler) (d .servers) (d .service .servers) (d .walk) ≡ true
   pub table : tableSound (d .service .protocol) (d .service .servers) (d .clock) row (d .servers) ≡ true
 
@@ -61,6 +65,11 @@ accepted g servers row e =
 pub judged : (g : Service) (servers : List Server) (row : List ℕ) → settingsJudged g servers row ≡ Verdict.Accepted → Accepted g servers row
 judged g servers row e = accepted g servers row (ap isAccepted e)
 
+-- a number that is accepted is one of a sound state
+pub numbered : (d : Director) (row : List ℕ) (k : ℕ) → numberJudged d row k ≡ Verdict.Accepted → soundOf d row ≡ true
+unfolding numberJudged
+numbered d row k e = chosen (soundOf d row) _ _ (ap isAccepted e) .0
+
 pub accepting : (g : Service) (servers : List Server) (row : List ℕ) → Accepted g servers row → settingsJudged g servers row ≡ Verdict.Accepted
 unfolding settingsJudged
 accepting g servers row a = rw (le-leb _ _ (a .some), le-leb _ _ (a .most), a .whole, a .right, a .set, a .distinct)
@@ -70,16 +79,26 @@ unfolding soundOf partsSound
 sound-parts d row e =
     let n = d .service .servers in
     let unused = allKeep (Rule.UnusedFrom n) (d .servers) 64 in
+    let weights = weightsAgree (d .weights) (d .servers) n in
     let range = inRange (d .service .scheduler) (d .servers) n (d .walk) in
     let table = tableSound (d .service .protocol) n (d .clock) row (d .servers) in
-    let (settings, parts) = both (isAccepted (settingsJudged (d .service) (d .servers) row)) (unused && range && table) e in
-    let (front, last) = both (unused && range) table parts in
-    let (first, second) = both unused range front in
-    record { settings = accepted (d .service) (d .servers) row settings; unused = first; range = second; table = last }
+    let (settings, parts) = both (isAccepted (settingsJudged (d .service) (d .servers) row)) (unused && weights && range && table) e in
+    let (front, last) = both (unused && weights && range) table parts in
+    let (pair, third) = both (unused && weights) range front in
+    let (first, second) = both unused weights pair in
+    record {
+      settings = accepted (d .service) (d .servers) row settings;
+      unused = first;
+      weights = weights-agree (d .weights) (d .servers) n .0 second;
+      range = third;
+      table = last;
+    }
 
 pub sound-whole : (d : Director) (row : List ℕ) → Sound d row → soundOf d row ≡ true
 unfolding soundOf partsSound
-sound-whole d row s = rw (accepting (d .service) (d .servers) row (s .settings), s .unused, s .range, s .table)
+sound-whole d row s =
+    let agree = weights-agree (d .weights) (d .servers) (d .service .servers) .1 (s .weights) in
+    rw (accepting (d .service) (d .servers) row (s .settings), s .unused, agree, s .range, s .table)
 
 -- a sound state's row has a row's length
 pub sound-row : (d : Director) (row : List ℕ) → soundOf d row ≡ true → IsRow row

@@ -4,6 +4,7 @@ use mathlib.Core.Bool.{cond}
 use mathlib.Core.List.{List, []}
 use lib.Dec.{ltb}
 use Rattle.servers.specs.Servers.{weightAt, countAt, withWeight}
+use Rattle.scheduler.specs.Weights.{weightsOf}
 use Rattle.scheduler.specs.ByNumber.{afterWeight}
 use Rattle.director.specs.declared.state.Director.{Director}
 use Rattle.director.specs.declared.state.Refusal.{Refusal}
@@ -19,11 +20,13 @@ numberJudged d row k =
     (cond (ltb k (d .service .servers)) Verdict.Accepted (Verdict.Refused Refusal.NoServer))
     (Verdict.Refused Refusal.Unsound)
 
--- the state with server k's weight set, and the walk as its scheduler has it then
+-- the state with server k's weight set and the walk as its scheduler has it then: "An accepted setup and an accepted weight call keep the largest weight
+-- and the divisor (2.12) true" (SCOPE 3.5)
 abbrev pub weighed : Director → (k w : ℕ) → Director
 weighed d k w = record {
   service = d .service;
   servers = withWeight (d .servers) k w;
+  weights = weightsOf (withWeight (d .servers) k w) (d .service .servers);
   walk = afterWeight (d .service .scheduler) (d .walk) (weightAt (d .servers) k) w;
   clock = d .clock;
 }

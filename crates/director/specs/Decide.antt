@@ -39,9 +39,9 @@ abbrev pub belongs : Sender → ServerNo → Bool
 belongs Sender.Client i = true
 belongs (Sender.Server source) i = eqb (source .0) (i .0)
 
--- the server that is next, by the scheduler
+-- the server that is next, by the scheduler, which "takes the largest weight and the divisor from the state (2.12)" (SCOPE 10.12)
 abbrev pub nextPick : Director → Picked
-nextPick d = pickOf (d .service .scheduler) (d .servers) (d .service .servers) (d .walk)
+nextPick d = pickOf (d .service .scheduler) (d .servers) (d .service .servers) (d .weights) (d .walk)
 
 -- 14 where every weight is 0, before the walk moves; else what is made of the pick
 abbrev pub onPick : (ServerNo → Walk → Decision) → Picked → Decision

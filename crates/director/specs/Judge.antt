@@ -6,6 +6,7 @@ use lib.Dec.{eqb, leb}
 use Rattle.servers.specs.declared.Server.{Server}
 use Rattle.servers.specs.declared.rules.Rule.{Rule}
 use Rattle.servers.specs.Rules.{allKeep}
+use Rattle.scheduler.specs.Weights.{weightsAgree}
 use Rattle.scheduler.specs.ByNumber.{isScheduler, inRange}
 use Rattle.table.specs.Slots.{isRow}
 use Rattle.table.specs.Sound.{tableSound}
@@ -42,10 +43,12 @@ abbrev pub isAccepted : Verdict → Bool
 isAccepted Verdict.Accepted = true
 isAccepted (Verdict.Refused why) = false
 
--- "unused server places are zeros" (SCOPE 6.2); the slots and counts are sound; "the walk's place is in its range" (SCOPE 6.6)
+-- "unused server places are zeros" (SCOPE 6.2); "the largest weight and the divisor (2.12) agree with the weights" (SCOPE 6.9); "the walk's place is in
+-- its range" (SCOPE 6.6); the slots and counts are sound
 unfoldable pub partsSound : Director → List ℕ → Bool
 partsSound d row =
     allKeep (Rule.UnusedFrom (d .service .servers)) (d .servers) 64
+    && weightsAgree (d .weights) (d .servers) (d .service .servers)
     && inRange (d .service .scheduler) (d .servers) (d .service .servers) (d .walk)
     && tableSound (d .service .protocol) (d .service .servers) (d .clock) row (d .servers)
 

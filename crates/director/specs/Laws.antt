@@ -1,5 +1,5 @@
--- What opens and what renews, the phases, the refusals' numbers and, at three places, their order, with SCOPE's values written out: where one of these is wrong
--- in code and definition alike, a statement here fails. Assumes nothing: these are statements; proofs/Laws.antt proves them (`laws`).
+-- What opens and what renews, the phases, the refusals' numbers and, at three places, their order, with SCOPE's values written out, and what a state holds of the
+-- weights: where one of these is wrong in code and definition alike, a statement here fails. Assumes nothing: these are statements; proofs/Laws.antt proves them (`laws`).
 use Prim.Native.Nat.{ℕ}
 use mathlib.Core.Bool.{Bool, true, false}
 use mathlib.Core.List.{List, [], _∷_, map}
@@ -10,6 +10,9 @@ use Rattle.lists.specs.Tests.{keep}
 use Rattle.packet.specs.declared.read.Fault.{Fault}
 use Rattle.packet.specs.declared.read.Flags.{Flags}
 use Rattle.servers.specs.declared.ServerNo.{ServerNo}
+use Rattle.scheduler.specs.declared.weights.Weights.{Weights}
+use Rattle.scheduler.specs.Weights.{weightsOf}
+use Rattle.scheduler.specs.ByNumber.{pickOf}
 use Rattle.table.specs.declared.slot.Slot.{Slot}
 use Rattle.table.specs.declared.slot.SlotNo.{SlotNo}
 use Rattle.table.specs.declared.find.Found.{Found}
@@ -27,9 +30,10 @@ use Rattle.director.specs.State.{refusalNumber, keepsClock, Lent, refusa
 use Rattle.director.specs.Judge.{soundOf}
 use Rattle.director.specs.Control.{numberJudged}
 use Rattle.director.specs.Segment.{segmentRead}
-use Rattle.director.specs.Decide.{opens, belongs, renews, decided}
+use Rattle.director.specs.Tick.{tickOf}
+use Rattle.director.specs.Decide.{opens, belongs, nextPick, renews, decided}
 use Rattle.director.specs.Carry.{phaseOf}
-use Rattle.director.specs.Packets.{packetHeld}
+use Rattle.director.specs.Packets.{packetHeld, packetOf}
 
 -- "SYN set and ACK, RST, FIN clear" (SCOPE 8.3)
 abbrev pub synAlone : Flags
@@ -60,6 +64,10 @@ refusals =
     ∷ Refusal.Packet Fault.BadChecksum
     ∷ []
 
+-- the state with other numbers in the place of the largest weight and the divisor
+abbrev pub withWeights : Director → Weights → Director
+withWeights d held = record { service = d .service; servers = d .servers; weights = held; walk = d .walk; clock = d .clock }
+
 -- given the lowest slot of a packet's client: is it one of a connection that the packet belongs to (SCOPE 4.12)?
 abbrev pub isIts : List Slot → Segment → Found → Bool
 isIts l m Found.Nothing = false
@@ -89,6 +97,25 @@ NeverFull =
     (d : Director) (l : List Slot) (m : Segment) (k : SlotNo) → firstFrom (ofClient (m .address) (m .port)) 0 l ≡ Found.At k
     → renews m (getD l (k .0) freeSlot .phase) ≡ true → decided d l m ≡ Decision.Refuse Refusal.TableFull → ⊥
 
+-- the largest weight and the divisor that a state holds
+
+-- a sound state's are those that its weights give, so the pick is the one with both worked out
+abbrev pub WeightsTrue : Type 0
+WeightsTrue =
+    (d : Director) (row : List ℕ) → soundOf d row ≡ true
+    → let given = weightsOf (d .servers) (d .service .servers) in
+    (d .weights ≡ given) × (nextPick d ≡ pickOf (d .service .scheduler) (d .servers) (d .service .servers) given (d .walk))
+
+-- with other numbers in their place it is not sound, whatever the scheduler
+abbrev pub WeightsJudged : Type 0
+WeightsJudged = (d : Director) (row : List ℕ) (held : Weights) → soundOf d row ≡ true → (soundOf (withWeights d held) row ≡ true) ↔ (held ≡ d .weights)
+
+-- a tick and a packet call leave them as they are, refused or accepted
+abbrev pub WeightsLeft : Type 0
+WeightsLeft =
+    (d : Director) (row : List ℕ) (now : ℕ)
+    → (tickOf d row now .director .weights ≡ d .weights) × ((way : Way) (p : List ℕ) → packetOf way d row p now .director .weights ≡ d .weights)
+
 pub record Laws : Type 0 where
   -- a client's packet of TCP (6) opens with these flags and no others; "any UDP inbound" (SCOPE 8.3), which is 17
   pub opens-tcp : (m : Segment) → m .sender ≡ Sender.Client → (opens 6 m ≡ true) ↔ (m .flags ≡ synAlone)
@@ -112,3 +139,7 @@ pub record Laws : Type 0 where
   pub unread-first : UnreadFirst
   pub full-first : FullFirst
   pub never-full : NeverFull
+  -- what the state holds of the weights
+  pub weights-true : WeightsTrue
+  pub weights-judged : WeightsJudged
+  pub weights-left : WeightsLeft

@@ -3,6 +3,7 @@ use Prim.Native.Nat.{ℕ}
 use mathlib.Core.List.{List, []}
 use Rattle.servers.specs.declared.Server.{Server}
 use Rattle.servers.specs.Fresh.{freshServers}
+use Rattle.scheduler.specs.Weights.{weightsOf}
 use Rattle.scheduler.specs.ByNumber.{startOf}
 use Rattle.table.specs.Slots.{zeroed}
 use Rattle.director.specs.declared.state.Service.{Service}
@@ -12,11 +13,13 @@ use Rattle.director.specs.declared.judge.Verdict.{Verdict}
 use Rattle.director.specs.State.{Result, lent, refusal}
 use Rattle.director.specs.Judge.{settingsJudged}
 
--- "Accepted, setup zeroes the row, all counts and the clock, and puts the walk at its start." (SCOPE 3.3)
+-- "Accepted, setup zeroes the row, all counts and the clock, and puts the walk at its start." (SCOPE 3.3) "An accepted setup and an accepted weight call
+-- keep the largest weight and the divisor (2.12) true" (SCOPE 3.5)
 abbrev pub newDirector : Service → List Server → Director
 newDirector g given = record {
   service = g;
   servers = freshServers given (g .servers);
+  weights = weightsOf (freshServers given (g .servers)) (g .servers);
   walk = startOf (g .scheduler) (g .servers);
   clock = 0;
 }

@@ -60,9 +60,9 @@ isAccepted (Answer.Number n) = true
 isAccepted (Answer.Passed i change) = true
 isAccepted (Answer.Refused why) = false
 
--- the state with other servers and another walk
+-- the state with other servers, of the same weights, and another walk: "every other call leaves them as they are" (SCOPE 3.5)
 abbrev pub withServers : Director → List Server → Walk → Director
-withServers d servers walk = record { service = d .service; servers = servers; walk = walk; clock = d .clock }
+withServers d servers walk = record { service = d .service; servers = servers; weights = d .weights; walk = walk; clock = d .clock }
 
 -- the state with one connection less on server i
 abbrev pub withOneLess : Director → ℕ → Director

@@ -17,9 +17,10 @@ use Rattle.director.specs.Judge.{soundOf}
 abbrev pub idleNow : Director → ℕ → Slot → Bool
 idleNow d now s = isIdle (d .service .protocol) now s
 
--- "After 11 is passed, the clock is stored and idle connections are removed" (SCOPE 5.4): the state, and the slots
+-- "After 11 is passed, the clock is stored and idle connections are removed" (SCOPE 5.4): the state, whose weights are the same, and the slots
 abbrev pub settled : Director → List Slot → ℕ → Director
-settled d l now = record { service = d .service; servers = loweredBy (idleNow d now) l (d .servers); walk = d .walk; clock = now }
+settled d l now =
+    record { service = d .service; servers = loweredBy (idleNow d now) l (d .servers); weights = d .weights; walk = d .walk; clock = now }
 
 abbrev pub settledSlots : Director → List Slot → ℕ → List Slot
 settledSlots d l now = idleRemoved (d .service .protocol) now l

@@ -24,6 +24,7 @@ pub fn settle(director: Director, row: &mut [u32], clock: u32) -> Settled
 {
     let service = director.service;
     let servers = director.servers;
+    let weights = director.weights;
     let walk = director.walk;
     let expired = expire(row, servers, service.protocol, service.servers, clock);
     let left = expired.servers;
@@ -31,6 +32,7 @@ pub fn settle(director: Director, row: &mut [u32], clock: u32) -> Settled
         director: Director {
             service,
             servers: left,
+            weights,
             walk,
             clock,
         },

@@ -7,11 +7,13 @@ use crate::state::Outcome;
 use crate::state::Refusal;
 use crate::state::refuse;
 use scheduler::after_weight;
+use scheduler::weights::weights_of;
 use servers::ServerNo;
 use servers::server_at;
 use servers::with_weight;
 ghost use mathlib.Core.Path.{_≡_};
 ghost use mathlib.Core.List.{[]};
+ghost use Prim.Native.Nat.{_≤_};
 ghost use Rattle.director.specs.State.{result};
 ghost use Rattle.director.specs.Control.{numberJudged, weighed, weightOf, countCallOf};
 
@@ -31,6 +33,7 @@ fn judge_number(director: Director, row: &[u32], no: ServerNo) -> Verdict
 
 // The state with one weight set.
 fn with_server_weight(director: Director, no: ServerNo, weight: u16) -> Director
+    requires { ⌜ director .service .servers ≤ 64 ⌝ }
     ensures { λ r. ⌜ r ≡ weighed director (no .0) weight ⌝ }
 {
     let service = director.service;
@@ -39,9 +42,11 @@ fn with_server_weight(director: Director, no: ServerNo, weight: u16) -> Director
     let old = server_at(servers, no);
     let moved = after_weight(service.scheduler, walk, old.weight, weight);
     let changed = with_weight(servers, no, weight);
+    let weights = weights_of(changed, service.servers);
     Director {
         service,
         servers: changed,
+        weights,
         walk: moved,
         clock: director.clock,
     }

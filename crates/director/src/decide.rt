@@ -94,8 +94,9 @@ fn next_pick(director: Director) -> Picked
 {
     let service = director.service;
     let servers = director.servers;
+    let held = director.weights;
     let walk = director.walk;
-    pick(service.scheduler, servers, service.servers, walk)
+    pick(service.scheduler, servers, service.servers, held, walk)
 }
 
 // A packet that would open a connection in the free slot `k`.

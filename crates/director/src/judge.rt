@@ -4,6 +4,7 @@ use crate::state::Refusal;
 use crate::state::Service;
 use scheduler::in_range;
 use scheduler::is_scheduler;
+use scheduler::weights::weights_agree;
 use servers::Server;
 use servers::rules::Rule;
 use servers::rules::all_keep;
@@ -66,7 +67,7 @@ pub fn judge_settings(service: Service, servers: [Server; 64], row: &[u32]) -> V
     Verdict::Accepted
 }
 
-// Whether what refusals 1 to 4 don't ask about is sound too: unused places, walk, slots and counts.
+// Whether what refusals 1 to 4 don't ask about is sound too: unused places, the numbers held of the weights, walk, slots and counts.
 fn are_parts_sound(director: Director, row: &[u32]) -> bool
     requires { ⌜ director .service .servers ≤ 64 ⌝ }
     ensures { λ r. ⌜ r ≡ partsSound director (now (row .entry)) ⌝ }
@@ -77,8 +78,12 @@ fn are_parts_sound(director: Director, row: &[u32]) -> bool
     if !all_keep(Rule::UnusedFrom(n), servers, 64) {
         return false;
     }
+    let held = director.weights;
+    if !weights_agree(held, servers, n) {
+        return false;
+    }
     let walk = director.walk;
-    if !in_range(service.scheduler, servers, n, walk) {
+    if !in_range(service.scheduler, held.largest, n, walk) {
         return false;
     }
     table::sound::is_sound(row, servers, service.protocol, n, director.clock)

@@ -7,6 +7,7 @@ use crate::state::Outcome;
 use crate::state::Service;
 use crate::state::refuse;
 use scheduler::start;
+use scheduler::weights::weights_of;
 use servers::Server;
 use servers::fresh::fresh_servers;
 use table::clear::clear_row;
@@ -23,10 +24,12 @@ fn new_director(service: Service, servers: [Server; 64]) -> Director
 {
     let n = service.servers;
     let made = fresh_servers(servers, n);
+    let weights = weights_of(made, n);
     let walk = start(service.scheduler, n);
     Director {
         service,
         servers: made,
+        weights,
         walk,
         clock: 0,
     }

@@ -1,6 +1,7 @@
 // The director's state, and what a call answers.
 use packet::read::Fault;
 use scheduler::walk::Walk;
+use scheduler::weights::Weights;
 use servers::Server;
 use servers::ServerNo;
 use servers::lower;
@@ -26,12 +27,15 @@ pub struct Service {
     pub servers: u32,
 }
 
-// The state that goes into a call and comes back from it; the connection table is lent beside it.
+// The state that goes into a call and comes back from it; the connection table is lent beside it. The servers are not next to the
+// service: the two would be copied as one, and the compiler then leaves out fewer of the array's copies.
 pub struct Director {
-    pub service: Service,
     pub servers: [Server; 64],
+    // what the servers' weights come to
+    pub weights: Weights,
     pub walk: Walk,
     pub clock: u32,
+    pub service: Service,
 }
 
 // Which way a packet goes: from a client, or from a server.
@@ -128,14 +132,16 @@ pub fn decline(why: Refusal) -> Carried
     }
 }
 
-// The state with other servers and another walk.
+// The state with other servers, of the same weights, and another walk.
 pub fn with_servers(director: Director, servers: [Server; 64], walk: Walk) -> Director
     ensures { λ r. ⌜ r ≡ withServers director servers walk ⌝ }
 {
     let service = director.service;
+    let weights = director.weights;
     Director {
         service,
         servers,
+        weights,
         walk,
         clock: director.clock,
     }

@@ -17,7 +17,13 @@ placeNumber (Place.At i) = i .0 + 1
 
 -- the director's state of plain numbers
 abbrev pub decoded : State → Director
-decoded s = record { service = s .service; servers = s .servers; walk = record { place = placeOf (s .place); level = s .level }; clock = s .clock }
+decoded s = record {
+  service = s .service;
+  servers = s .servers;
+  weights = record { largest = s .«largest_weight»; divisor = s .«weight_divisor» };
+  walk = record { place = placeOf (s .place); level = s .level };
+  clock = s .clock;
+}
 
 -- and the other way
 abbrev pub encoded : Director → State
@@ -27,4 +33,6 @@ encoded d = record {
   servers = d .servers;
   place = placeNumber (d .walk .place);
   level = d .walk .level;
+  «largest_weight» = d .weights .largest;
+  «weight_divisor» = d .weights .divisor;
 }

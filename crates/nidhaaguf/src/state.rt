@@ -3,12 +3,14 @@ use director::state::Director;
 use director::state::Service;
 use scheduler::walk::Place;
 use scheduler::walk::Walk;
+use scheduler::weights::Weights;
 use servers::Server;
 use servers::ServerNo;
 ghost use mathlib.Core.Path.{_≡_};
 ghost use Rattle.nidhaaguf.specs.State.{placeOf, placeNumber, decoded, encoded};
 
-// NidhaagufState: the director's state in plain numbers, 800 bytes.
+// NidhaagufState: the director's state in plain numbers, 800 bytes. Service at 0, clock at 12, servers at 16, place at 784, level at 792,
+// largest weight at 794, divisor at 796.
 #[repr(C)]
 pub struct State {
     pub service: Service,
@@ -18,6 +20,9 @@ pub struct State {
     pub place: u64,
     // the walk's level
     pub level: u16,
+    // the largest weight of the servers in use, and the greatest common divisor of their weights
+    pub largest_weight: u16,
+    pub weight_divisor: u16,
 }
 
 // NidhaagufServers: what setup is given (an array alone is not passed by value in C).
@@ -59,6 +64,10 @@ pub fn decode(state: State) -> Director
     Director {
         service,
         servers,
+        weights: Weights {
+            largest: state.largest_weight,
+            divisor: state.weight_divisor,
+        },
         walk: Walk {
             place,
             level: state.level,
@@ -73,6 +82,7 @@ pub fn encode(director: Director) -> State
 {
     let service = director.service;
     let servers = director.servers;
+    let weights = director.weights;
     let walk = director.walk;
     let place = walk.place;
     State {
@@ -81,5 +91,7 @@ pub fn encode(director: Director) -> State
         servers,
         place: place_number(place),
         level: walk.level,
+        largest_weight: weights.largest,
+        weight_divisor: weights.divisor,
     }
 }

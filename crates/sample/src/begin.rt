@@ -3,6 +3,7 @@ use director::state::Director;
 use director::state::Service;
 use scheduler::walk::Place;
 use scheduler::walk::Walk;
+use scheduler::weights::Weights;
 use servers::Server;
 use servers::unused;
 
@@ -15,12 +16,12 @@ pub const SECOND: u32 = 0x0A010006;
 
 pub const CLIENT: u32 = 0x0A000001;
 
-// A server of weight 1.
-fn replica(address: u32) -> Server {
+// A server of a weight.
+pub fn replica(address: u32, weight: u16) -> Server {
     Server {
         address,
         port: 6432,
-        weight: 1,
+        weight,
         count: 0,
     }
 }
@@ -29,8 +30,8 @@ fn replica(address: u32) -> Server {
 pub fn replicas() -> [Server; 64] {
     let none = unused();
     let mut servers = [none; 64];
-    servers[0] = replica(FIRST);
-    servers[1] = replica(SECOND);
+    servers[0] = replica(FIRST, 1);
+    servers[1] = replica(SECOND, 1);
     servers
 }
 
@@ -52,6 +53,10 @@ pub fn blank() -> Director {
     Director {
         service: none,
         servers,
+        weights: Weights {
+            largest: 0,
+            divisor: 0,
+        },
         walk: Walk {
             place: Place::Start,
             level: 0,

@@ -68,13 +68,13 @@ divides-any d (suc w) h = h (omega arith)
 module _ (s : List Server) where
   each-divided : (n j : ℕ) → j < n → weightsGcd s n ∣ weightAt s j
   each-divided =
-      fold-holds (λ g k. gcdOf g (weightAt s k)) 0 (λ k g. (j : ℕ) → j < k → g ∣ weightAt s j) (below-none _)
-      (λ k g p. below-more _ k (λ j h. dvd-trans _ (gcd-divides g (weightAt s k) .0) (p j h)) (gcd-divides g (weightAt s k) .1))
+      fold-holds (λ g k. gcdOf (weightAt s k) g) 0 (λ k g. (j : ℕ) → j < k → g ∣ weightAt s j) (below-none _)
+      (λ k g p. below-more _ k (λ j h. dvd-trans _ (gcd-divides (weightAt s k) g .1) (p j h)) (gcd-divides (weightAt s k) g .0))
 
   greatest-divided : (n d : ℕ) → ((j : ℕ) → j < n → 0 < weightAt s j → d ∣ weightAt s j) → d ∣ weightsGcd s n
   greatest-divided n d p =
-      fold-holds (λ g k. gcdOf g (weightAt s k)) 0 (λ k g. ((j : ℕ) → j < k → 0 < weightAt s j → d ∣ weightAt s j) → d ∣ g) (λ q. dvd-zero d)
-      (λ k g ih q. gcd-greatest d g (weightAt s k) (ih (λ j h. q j (omega arith))) (divides-any d (weightAt s k) (q k (omega arith)))) n p
+      fold-holds (λ g k. gcdOf (weightAt s k) g) 0 (λ k g. ((j : ℕ) → j < k → 0 < weightAt s j → d ∣ weightAt s j) → d ∣ g) (λ q. dvd-zero d)
+      (λ k g ih q. gcd-greatest d (weightAt s k) g (divides-any d (weightAt s k) (q k (omega arith))) (ih (λ j h. q j (omega arith)))) n p
 
 pub weights-gcd : GcdLaw
 weights-gcd s n = record { divides = each-divided s n; greatest = greatest-divided s n }

@@ -1,17 +1,14 @@
--- The largest weight: no weight is above it, and some server has it; it is 0 exactly where each weight is; a count does not
--- matter to it. Assumes nothing.
+-- The largest weight: no weight is above it, and some server has it; it is 0 exactly where each weight is. Assumes nothing.
 use mathlib.Core.Bool.{true, false}
-use mathlib.Core.List.{List, [], _∷_}
+use mathlib.Core.List.{List}
 use mathlib.Core.Logic.{⊎-elim}
-use mathlib.Core.Path.{_≡_, refl, ap, fun-ext}
-use Prim.Native.Nat.{ℕ, zero, suc, _≤_, _<_, max}
+use mathlib.Core.Path.{_≡_}
+use Prim.Native.Nat.{ℕ, _≤_, _<_, max}
 use native.Mathlib.Omega.{arith}
 use native.Mathlib.Nat.{le-max-left, le-max-right, le-trans, eq-or-lt-of-le, eq-zero-or-pos}
-use lib.ListN.{set}
 use borrow.Author.Tests.{eq-eqb, eqb-true, eqb-false}
 use borrow.Author.Count.{below-none, below-more}
-use Rattle.lists.specs.Fold.{foldBelow}
-use Rattle.servers.specs.Servers.{weightAt, withCount}
+use Rattle.servers.specs.Servers.{weightAt}
 use Rattle.scheduler.specs.Weights.{largestOf, noWeight}
 use Rattle.servers.specs.declared.Server.{Server}
 use Rattle.scheduler.specs.Laws.{LargestLaw, EachZero, NoWeightLaw}
@@ -53,14 +50,3 @@ no-weight s n = (none, all)
 -- where not every weight is 0, the largest is above 0
 pub some-weight : (s : List Server) (n : ℕ) → noWeight s n ≡ false → 0 < largestOf s n
 some-weight s n e = omega (arith, eqb-false (largestOf s n) 0 e)
-
--- a server that weighs what the old one did changes no weight
-same-weights : (s : List Server) (i : ℕ) (v : Server) → v .weight ≡ weightAt s i → (j : ℕ) → weightAt (set s i v) j ≡ weightAt s j
-same-weights [] i v e j = refl
-same-weights (x ∷ s) zero v e zero = e
-same-weights (x ∷ s) zero v e (suc j) = refl
-same-weights (x ∷ s) (suc i) v e zero = refl
-same-weights (x ∷ s) (suc i) v e (suc j) = same-weights s i v e j
-
-pub same-largest : (s : List Server) (n i c : ℕ) → largestOf (withCount s i c) n ≡ largestOf s n
-same-largest s n i c = ap (λ (at : ℕ → ℕ). foldBelow (λ m k. max m (at k)) 0 n) (fun-ext (same-weights s i _ refl))

@@ -1,5 +1,6 @@
 pub mod Gcd
 pub mod Largest
+pub mod Held
 pub mod LeastLoaded
 pub mod Rings
 pub mod Walks

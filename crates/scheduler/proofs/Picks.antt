@@ -7,7 +7,7 @@ use Prim.Native.Nat.{ℕ}
 use native.Mathlib.Omega.{arith}
 use borrow.Author.Tests.{ne-eqb}
 use Rattle.servers.specs.declared.Server.{Server}
-use Rattle.scheduler.specs.Weights.{largestOf, noWeight}
+use Rattle.scheduler.specs.Weights.{largestOf, weightsOf, noWeight}
 use Rattle.scheduler.specs.ByNumber.{isScheduler, schedulerOf, pickOf}
 use Rattle.scheduler.specs.Laws.{Picking, PickFound, PickLaw, isNobody, NobodyLaw}
 use Rattle.scheduler.specs.declared.least_loaded.Load.{Load}
@@ -32,4 +32,4 @@ named k s n (Picked.Server r w) f = sym (ne-eqb (largestOf s n) 0 (omega (arith,
 named k s n Picked.Nobody f = sym (no-weight s n .1 f)
 
 pub pick-nobody : NobodyLaw
-pick-nobody k s n w h r = named k s n (pickOf k s n w) (pick-found k s n w h r)
+pick-nobody k s n w h r = named k s n (pickOf k s n (weightsOf s n) w) (pick-found k s n w h r)

@@ -10,6 +10,7 @@ use borrow.Author.Tests.{lt-ltb, ltb-true, ltb-false}
 use Rattle.lists.proofs.Cases.{both}
 use Rattle.servers.specs.Servers.{weightAt}
 use Rattle.servers.specs.declared.Server.{Server}
+use Rattle.scheduler.specs.Weights.{weightsOf}
 use Rattle.scheduler.specs.Walk.{atServer}
 use Rattle.scheduler.specs.Ring.{afterIn, nextOf}
 use Rattle.scheduler.specs.RoundRobin.{keepsLevel, weighs, roundRobin}
@@ -61,21 +62,20 @@ module _ (s : List Server) (n : ℕ) where
   moved-found i cw Picked.Nobody h z f = each-zero i h f
 
 pub round-robin-next : NextLaw
-round-robin-next s n i cw h =
-    next-after s n (i .0) cw (roundRobin .pick s n (record { place = Place.At i; level = cw })) h
+round-robin-next s n held i cw h =
+    next-after s n (i .0) cw (roundRobin .pick s n held (record { place = Place.At i; level = cw })) h
     (ring-first keepsLevel (weighs s) n n (afterIn n (i .0)) cw (after-below n (i .0) (omega arith)))
 
 pub round-robin-picking : Picking roundRobin
 round-robin-picking s n w r =
     let (z, at) = both (eqb (w .level) 0) (atServer n (w .place)) r in
     let h = next-below n (w .place) (at-some n (w .place) at) in
-    moved-found s n (nextOf n (w .place)) (w .level) (roundRobin .pick s n w) h z
+    moved-found s n (nextOf n (w .place)) (w .level) (roundRobin .pick s n (weightsOf s n) w) h z
     (ring-first keepsLevel (weighs s) n n (nextOf n (w .place)) (w .level) h)
 
 pub round-robin-ranged : Ranged roundRobin
 round-robin-ranged = record {
-  started = λ s n h. lt-ltb (n - 1) n (omega arith);
+  started = λ top n h. lt-ltb (n - 1) n (omega arith);
   weighed = λ s n i x w h. h;
-  counted = λ s n i x w. refl;
-  placed = λ s n w h. rests-within n w;
+  placed = λ top n w h. rests-within n w;
 }

@@ -35,8 +35,7 @@ widened n (Place.At i) h p = omega arith
 
 pub holding-ranged : (pick : List Server → ℕ → Walk → Picked) → Ranged (holding pick)
 holding-ranged pick = record {
-  started = λ s n h. refl;
+  started = λ top n h. refl;
   weighed = λ s n i x w h. h;
-  counted = λ s n i x w. refl;
-  placed = λ s n w h r. widened n (w .place) h (rests-within 1 w r);
+  placed = λ top n w h r. widened n (w .place) h (rests-within 1 w r);
 }

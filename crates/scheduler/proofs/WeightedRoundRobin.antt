@@ -11,14 +11,14 @@ use borrow.Author.Tests.{lt-ltb, ltb-true, le-leb, leb-true, leb-false, ne-eqb, 
 use Rattle.lists.proofs.Cases.{by-test, both}
 use Rattle.servers.specs.Servers.{unused, weightAt, withWeight}
 use Rattle.servers.specs.declared.Server.{Server}
-use Rattle.scheduler.specs.Weights.{weightsGcd, largestOf, noWeight}
+use Rattle.scheduler.specs.Weights.{weightsGcd, largestOf, weightsOf, noWeight}
 use Rattle.scheduler.specs.Ring.{afterIn, nextOf, ringOf}
-use Rattle.scheduler.specs.WeightedRoundRobin.{inLevels, levelPlace, levelAt, reaches, weightedRoundRobin}
+use Rattle.scheduler.specs.WeightedRoundRobin.{levelPlace, levelAt, reaches, weightedRoundRobin}
 use Rattle.scheduler.specs.Laws.{levelAfter, FirstFound, Within, Ranged, FoundBy, Picking}
 use Rattle.scheduler.specs.declared.walk.Place.{Place}
 use Rattle.scheduler.specs.declared.walk.Walk.{Walk}
 use Rattle.scheduler.specs.declared.walk.Picked.{Picked}
-use Rattle.scheduler.proofs.Largest.{largest-met, no-weight, some-weight, same-largest}
+use Rattle.scheduler.proofs.Largest.{largest-met, no-weight, some-weight}
 use Rattle.scheduler.proofs.Rings.{next-below, distance, ring-first}
 
 -- the level of scheduler 2, with the divisor g and the largest weight m
@@ -49,7 +49,7 @@ module _ (g m : ℕ) (pm : 0 < m) where
   level-start n cw (Place.At i) h =
       level-above (nextOf n (Place.At i)) cw (omega (arith, eqb-false cw 0 (not-true (eqb cw 0) (both (not (eqb cw 0)) (ltb (i .0) n) h .0))))
 
-module _ (s : List Server) (n : ℕ) (w : Walk) (range : weightedRoundRobin .inRange s n w ≡ true) where
+module _ (s : List Server) (n : ℕ) (w : Walk) (range : weightedRoundRobin .inRange (largestOf s n) n w ≡ true) where
   abbrev first : ℕ
   first = nextOf n (w .place)
 
@@ -88,7 +88,7 @@ module _ (s : List Server) (n : ℕ) (w : Walk) (range : weightedRoundRobin .inR
           top .2,
         ))
 
-  weighted-found : FoundBy weightedRoundRobin s n (weightedRoundRobin .pick s n w)
+  weighted-found : FoundBy weightedRoundRobin s n (weightedRoundRobin .pick s n (weightsOf s n) w)
   weighted-found =
       by-test (FoundBy weightedRoundRobin s n) (noWeight s n) _ _ (no-weight s n .0)
       (λ e.
@@ -110,11 +110,10 @@ level-within n cw (Place.At i) h = ltb-true (i .0) n (both (not (eqb cw 0)) (ltb
 
 pub weighted-ranged : Ranged weightedRoundRobin
 weighted-ranged = record {
-  started = λ s n h. simp leb·zero;
+  started = λ top n h. simp leb·zero;
   weighed = λ s n i x w h.
-      by-test (λ v. weightedRoundRobin .inRange (withWeight s i x) n v ≡ true) (eqb (weightAt s i) x) _ _
+      by-test (λ v. weightedRoundRobin .inRange (largestOf (withWeight s i x) n) n v ≡ true) (eqb (weightAt s i) x) _ _
       (λ e. rw (same-weight s i x (eqb-true (weightAt s i) x e)) h)
       (λ e. simp leb·zero);
-  counted = λ s n i x w. ap (λ (m : ℕ). inLevels n m w) (same-largest s n i x);
-  placed = λ s n w h r. level-within n (w .level) (w .place) (both (leb (w .level) (largestOf s n)) (levelPlace n (w .level) (w .place)) r .1);
+  placed = λ top n w h r. level-within n (w .level) (w .place) (both (leb (w .level) top) (levelPlace n (w .level) (w .place)) r .1);
 }

@@ -1,12 +1,13 @@
 -- What the definitions are proved to mean. Assumes nothing: these are statements; each `..Law` is proved in proofs/.
 use mathlib.Core.Bool.{Bool, true, false}
 use mathlib.Core.List.{List}
+use mathlib.Core.Logic.{_↔_}
 use mathlib.Core.Path.{_≡_}
 use Prim.Native.Nat.{ℕ, zero, suc, _+_, _%_, _<_, _≤_, _∣_}
 use Rattle.servers.specs.Servers.{serverAt, weightAt, withWeight, withCount}
 use Rattle.servers.specs.declared.Server.{Server}
 use Rattle.servers.specs.declared.ServerNo.{ServerNo}
-use Rattle.scheduler.specs.Weights.{weightsGcd, largestOf, noWeight}
+use Rattle.scheduler.specs.Weights.{weightsGcd, largestOf, weightsOf, weightsAgree, noWeight}
 use Rattle.scheduler.specs.Ring.{afterIn, ringFrom}
 use Rattle.scheduler.specs.Scheduler.{Scheduler}
 use Rattle.scheduler.specs.RoundRobin.{roundRobin}
@@ -14,6 +15,7 @@ use Rattle.scheduler.specs.LeastLoaded.{lighterBy, leastOf}
 use Rattle.scheduler.specs.ByNumber.{isScheduler, schedulerOf, startOf, inRange, afterWeight, pickOf}
 use Rattle.servers.specs.declared.Found.{Found}
 use Rattle.scheduler.specs.declared.least_loaded.Load.{Load}
+use Rattle.scheduler.specs.declared.weights.Weights.{Weights}
 use Rattle.scheduler.specs.declared.walk.Place.{Place}
 use Rattle.scheduler.specs.declared.walk.Walk.{Walk}
 use Rattle.scheduler.specs.declared.walk.Picked.{Picked}
@@ -43,6 +45,18 @@ EachZero s n = (j : ℕ) → j < n → weightAt s j ≡ 0
 -- the test for refusal 14 passes exactly where each weight is 0
 abbrev pub NoWeightLaw : Type 0
 NoWeightLaw = (s : List Server) (n : ℕ) → (noWeight s n ≡ true → EachZero s n) × (EachZero s n → noWeight s n ≡ true)
+
+-- where each weight is 0, the largest and the divisor are 0
+abbrev pub ZeroLaw : Type 0
+ZeroLaw = (s : List Server) (n : ℕ) → EachZero s n → weightsOf s n ≡ record { largest = 0; divisor = 0 }
+
+-- the numbers held pass the test for refusal 15 exactly where they are those that the weights give
+abbrev pub AgreeLaw : Type 0
+AgreeLaw = (held : Weights) (s : List Server) (n : ℕ) → (weightsAgree held s n ≡ true) ↔ (held ≡ weightsOf s n)
+
+-- a count set to c changes neither number
+abbrev pub SameWeightsLaw : Type 0
+SameWeightsLaw = (s : List Server) (n i c : ℕ) → weightsOf (withCount s i c) n ≡ weightsOf s n
 
 -- 2. Schedulers 3 and 4 (argmin)
 
@@ -108,8 +122,8 @@ NextFound s n i Picked.Nobody = EachZero s n
 -- round-robin, with i the last pick
 abbrev pub NextLaw : Type 0
 NextLaw =
-    (s : List Server) (n : ℕ) (i : ServerNo) (cw : ℕ) → i .0 < n
-    → NextFound s n (i .0) (roundRobin .pick s n (record { place = Place.At i; level = cw }))
+    (s : List Server) (n : ℕ) (held : Weights) (i : ServerNo) (cw : ℕ) → i .0 < n
+    → NextFound s n (i .0) (roundRobin .pick s n held (record { place = Place.At i; level = cw }))
 
 -- 4. Each scheduler
 
@@ -121,23 +135,21 @@ Within n (Place.At i) = i .0 < n
 -- what keeps the walk of scheduler c in its range
 pub record Ranged (c : Scheduler) : Type 0 where
   -- it is there at its start
-  pub started : (s : List Server) (n : ℕ) → 0 < n → c .inRange s n (c .start n) ≡ true
+  pub started : (top n : ℕ) → 0 < n → c .inRange top n (c .start n) ≡ true
   -- and, if it was, after a weight call: server i's weight is set to x
-  pub weighed : (s : List Server) (n i x : ℕ) (w : Walk) → c .inRange s n w ≡ true
-      → c .inRange (withWeight s i x) n (c .afterWeight w (weightAt s i) x) ≡ true
-  -- a count set to x changes nothing about it
-  pub counted : (s : List Server) (n i x : ℕ) (w : Walk) → c .inRange (withCount s i x) n w ≡ c .inRange s n w
+  pub weighed : (s : List Server) (n i x : ℕ) (w : Walk) → c .inRange (largestOf s n) n w ≡ true
+      → c .inRange (largestOf (withWeight s i x) n) n (c .afterWeight w (weightAt s i) x) ≡ true
   -- no other place than -1 and the n servers is in it
-  pub placed : (s : List Server) (n : ℕ) (w : Walk) → 0 < n → c .inRange s n w ≡ true → Within n (w .place)
+  pub placed : (top n : ℕ) (w : Walk) → 0 < n → c .inRange top n w ≡ true → Within n (w .place)
 
 -- an existing server whose weight is above 0, and a walk in the range of scheduler c; nobody only where each weight is 0
 abbrev pub FoundBy : Scheduler → List Server → ℕ → Picked → Type 0
-FoundBy c s n (Picked.Server r w) = (r .0 < n) × (0 < weightAt s (r .0)) × (c .inRange s n w ≡ true)
+FoundBy c s n (Picked.Server r w) = (r .0 < n) × (0 < weightAt s (r .0)) × (c .inRange (largestOf s n) n w ≡ true)
 FoundBy c s n Picked.Nobody = EachZero s n
 
--- with the walk in its range: so within the n numbers of the ring somebody is met, and the walk stays in range
+-- with the walk in its range and the numbers held true: so within the n numbers of the ring somebody is met, and the walk stays in range
 abbrev pub Picking : Scheduler → Type 0
-Picking c = (s : List Server) (n : ℕ) (w : Walk) → c .inRange s n w ≡ true → FoundBy c s n (c .pick s n w)
+Picking c = (s : List Server) (n : ℕ) (w : Walk) → c .inRange (largestOf s n) n w ≡ true → FoundBy c s n (c .pick s n (weightsOf s n) w)
 
 -- 5. The pick
 
@@ -145,21 +157,21 @@ Picking c = (s : List Server) (n : ℕ) (w : Walk) → c .inRange s n w ≡ true
 abbrev pub PickFound : ℕ → List Server → ℕ → Picked → Type 0
 PickFound k s n p = FoundBy (schedulerOf k) s n p
 
--- every scheduler, with the walk in its range
+-- every scheduler, with the walk in its range and the numbers held true
 abbrev pub PickLaw : Type 0
 PickLaw =
     (k : ℕ) (s : List Server) (n : ℕ) (w : Walk) → isScheduler k ≡ true
-    → inRange k s n w ≡ true → PickFound k s n (pickOf k s n w)
+    → inRange k s n w ≡ true → PickFound k s n (pickOf k s n (weightsOf s n) w)
 
 abbrev pub isNobody : Picked → Bool
 isNobody (Picked.Server r w) = false
 isNobody Picked.Nobody = true
 
--- with the walk in its range, nobody is picked exactly where every weight is 0 (refusal 14)
+-- with the walk in its range and the numbers held true, nobody is picked exactly where every weight is 0 (refusal 14)
 abbrev pub NobodyLaw : Type 0
 NobodyLaw =
     (k : ℕ) (s : List Server) (n : ℕ) (w : Walk) → isScheduler k ≡ true
-    → inRange k s n w ≡ true → isNobody (pickOf k s n w) ≡ noWeight s n
+    → inRange k s n w ≡ true → isNobody (pickOf k s n (weightsOf s n) w) ≡ noWeight s n
 
 -- 6. The walk's range
 

@@ -23,9 +23,9 @@ roundRobin = record {
   -- "last pick starts at n−1" (SCOPE 10.3)
   start = λ n. record { place = Place.At (record { 0 = n - 1 }); level = 0 };
   -- "Range 0..n−1" (SCOPE 10.4), "1 holds cw at 0" (SCOPE 10.11)
-  inRange = λ s n w. restsAt n w;
+  inRange = λ top n w. restsAt n w;
   -- "Schedulers 1, 3 and 4 keep their walk on a weight change" (SCOPE 10.10)
   afterWeight = λ w old new. w;
   -- "the next number in the ring with weight above 0" (SCOPE 10.3)
-  pick = λ s n w. ringOf keepsLevel (weighs s) n w;
+  pick = λ s n held w. ringOf keepsLevel (weighs s) n w;
 }

@@ -7,7 +7,6 @@ use Rattle.servers.specs.Servers.{weightAt}
 use Rattle.servers.specs.declared.Server.{Server}
 use Rattle.scheduler.specs.Ring.{ringOf}
 use Rattle.scheduler.specs.Scheduler.{Scheduler}
-use Rattle.scheduler.specs.Weights.{weightsGcd, largestOf}
 use Rattle.scheduler.specs.declared.walk.Place.{Place}
 use Rattle.scheduler.specs.declared.walk.Walk.{Walk}
 use Rattle.scheduler.specs.declared.walk.Picked.{Picked}
@@ -41,8 +40,8 @@ pickWith s n g m w = cond (eqb m 0) Picked.Nobody (ringOf (levelAt g m) (reaches
 abbrev pub weightedRoundRobin : Scheduler
 weightedRoundRobin = record {
   start = λ n. startWalk;
-  inRange = λ s n w. inLevels n (largestOf s n) w;
+  inRange = λ top n w. inLevels n top w;
   -- "a weight set to a different number restarts this walk; an equal one changes nothing" (SCOPE 10.7)
   afterWeight = λ w old new. cond (eqb old new) w startWalk;
-  pick = λ s n w. pickWith s n (weightsGcd s n) (largestOf s n) w;
+  pick = λ s n held w. pickWith s n (held .divisor) (held .largest) w;
 }

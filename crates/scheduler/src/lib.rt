@@ -14,8 +14,9 @@ use walk::Picked;
 use walk::Walk;
 use walk::held_walk;
 use walk::is_held;
+use weights::Weights;
 ghost use mathlib.Core.Path.{_≡_};
-ghost use Rattle.scheduler.specs.ByNumber.{isScheduler, startOf, inRange, afterWeight, pickOf};
+ghost use Rattle.scheduler.specs.ByNumber.{isScheduler, startOf, inRangeTo, afterWeight, pickOf};
 
 // Whether a number is a scheduler's (refusal 2).
 pub fn is_scheduler(scheduler: u8) -> bool
@@ -43,15 +44,15 @@ pub fn start(scheduler: u8, n: u32) -> Walk
     }
 }
 
-// Whether a walk is in its scheduler's range.
-pub fn in_range(scheduler: u8, servers: [Server; 64], n: u32, walk: Walk) -> bool
-    ensures { λ r. ⌜ r ≡ inRange scheduler servers n walk ⌝ }
+// Whether a walk is in its scheduler's range, where top is the largest weight.
+pub fn in_range(scheduler: u8, top: u16, n: u32, walk: Walk) -> bool
+    ensures { λ r. ⌜ r ≡ inRangeTo scheduler top n walk ⌝ }
 {
     match scheduler {
-        1 => round_robin::in_range(servers, n, walk),
-        2 => weighted_round_robin::in_range(servers, n, walk),
-        3 => least_connection::in_range(servers, n, walk),
-        4 => weighted_least_connection::in_range(servers, n, walk),
+        1 => round_robin::in_range(top, n, walk),
+        2 => weighted_round_robin::in_range(top, n, walk),
+        3 => least_connection::in_range(top, n, walk),
+        4 => weighted_least_connection::in_range(top, n, walk),
         _ => is_held(walk),
     }
 }
@@ -69,16 +70,16 @@ pub fn after_weight(scheduler: u8, walk: Walk, old: u16, new: u16) -> Walk
     }
 }
 
-// Picks one of the first n servers by scheduler 1 to 4, with the walk after it. With the walk in its range, nobody is
-// picked exactly where every weight is 0.
-pub fn pick(scheduler: u8, servers: [Server; 64], n: u32, walk: Walk) -> Picked
-    ensures { λ r. ⌜ r ≡ pickOf scheduler servers n walk ⌝ }
+// Picks one of the first n servers by scheduler 1 to 4, with the walk after it. With the walk in its range and the numbers held
+// true, nobody is picked exactly where every weight is 0.
+pub fn pick(scheduler: u8, servers: [Server; 64], n: u32, held: Weights, walk: Walk) -> Picked
+    ensures { λ r. ⌜ r ≡ pickOf scheduler servers n held walk ⌝ }
 {
     match scheduler {
-        1 => round_robin::pick(servers, n, walk),
-        2 => weighted_round_robin::pick(servers, n, walk),
-        3 => least_connection::pick(servers, n, walk),
-        4 => weighted_least_connection::pick(servers, n, walk),
+        1 => round_robin::pick(servers, n, held, walk),
+        2 => weighted_round_robin::pick(servers, n, held, walk),
+        3 => least_connection::pick(servers, n, held, walk),
+        4 => weighted_least_connection::pick(servers, n, held, walk),
         _ => Picked::Nobody,
     }
 }

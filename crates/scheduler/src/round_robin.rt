@@ -8,6 +8,7 @@ use crate::walk::Picked;
 use crate::walk::Place;
 use crate::walk::Walk;
 use crate::walk::rests_at;
+use crate::weights::Weights;
 use servers::Server;
 use servers::weight_at;
 ghost use mathlib.Core.Path.{_≡_};
@@ -24,8 +25,8 @@ pub fn start(n: u32) -> Walk
 }
 
 // Whether a walk is in its range.
-pub fn in_range(servers: [Server; 64], n: u32, walk: Walk) -> bool
-    ensures { λ r. ⌜ r ≡ roundRobin .inRange servers n walk ⌝ }
+pub fn in_range(top: u16, n: u32, walk: Walk) -> bool
+    ensures { λ r. ⌜ r ≡ roundRobin .inRange top n walk ⌝ }
 {
     rests_at(walk, n)
 }
@@ -38,8 +39,8 @@ pub fn after_weight(walk: Walk, old: u16, new: u16) -> Walk
 }
 
 // The pick among the first n servers.
-pub fn pick(servers: [Server; 64], n: u32, walk: Walk) -> Picked
-    ensures { λ r. ⌜ r ≡ roundRobin .pick servers n walk ⌝ }
+pub fn pick(servers: [Server; 64], n: u32, held: Weights, walk: Walk) -> Picked
+    ensures { λ r. ⌜ r ≡ roundRobin .pick servers n held walk ⌝ }
 {
     let place = walk.place;
     let level = walk.level;

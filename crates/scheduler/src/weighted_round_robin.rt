@@ -8,13 +8,12 @@ use crate::ring::picked_at;
 use crate::walk::Picked;
 use crate::walk::Place;
 use crate::walk::Walk;
-use crate::weights::largest;
-use crate::weights::weights_gcd;
+use crate::weights::Weights;
 use servers::Server;
 use servers::ServerNo;
 use servers::weight_at;
 ghost use mathlib.Core.Path.{_≡_};
-ghost use Rattle.scheduler.specs.WeightedRoundRobin.{inLevels, levelAt, pickWith, weightedRoundRobin};
+ghost use Rattle.scheduler.specs.WeightedRoundRobin.{levelAt, weightedRoundRobin};
 
 // The walk's start: before the first server.
 pub fn start(n: u32) -> Walk
@@ -27,8 +26,8 @@ pub fn start(n: u32) -> Walk
 }
 
 // Whether a walk is in its range, where top is the largest weight.
-fn in_levels(walk: Walk, n: u32, top: u16) -> bool
-    ensures { λ r. ⌜ r ≡ inLevels n top walk ⌝ }
+pub fn in_range(top: u16, n: u32, walk: Walk) -> bool
+    ensures { λ r. ⌜ r ≡ weightedRoundRobin .inRange top n walk ⌝ }
 {
     let level = walk.level;
     if top < level {
@@ -39,13 +38,6 @@ fn in_levels(walk: Walk, n: u32, top: u16) -> bool
         Place::Start => true,
         Place::At(no) => if level == 0 { false } else { no.0 < n },
     }
-}
-
-// Whether a walk is in its range.
-pub fn in_range(servers: [Server; 64], n: u32, walk: Walk) -> bool
-    ensures { λ r. ⌜ r ≡ weightedRoundRobin .inRange servers n walk ⌝ }
-{
-    in_levels(walk, n, largest(servers, n))
 }
 
 // The walk after a weight was set from old to new: at its start again where they differ.
@@ -75,10 +67,12 @@ fn level_at(no: ServerNo, level: u16, divisor: u16, top: u16) -> u16
     }
 }
 
-// The pick among the first n servers, given the greatest common divisor of their weights and their largest weight, top.
-fn pick_with(servers: [Server; 64], n: u32, divisor: u16, top: u16, walk: Walk) -> Picked
-    ensures { λ r. ⌜ r ≡ pickWith servers n divisor top walk ⌝ }
+// The pick among the first n servers, with the largest weight and the divisor that are held.
+pub fn pick(servers: [Server; 64], n: u32, held: Weights, walk: Walk) -> Picked
+    ensures { λ r. ⌜ r ≡ weightedRoundRobin .pick servers n held walk ⌝ }
 {
+    let top = held.largest;
+    let divisor = held.divisor;
     if top == 0 {
         return Picked::Nobody;
     }
@@ -95,17 +89,4 @@ fn pick_with(servers: [Server; 64], n: u32, divisor: u16, top: u16, walk: Walk) 
         left -= 1;
     }
     Picked::Nobody
-}
-
-// The pick among the first n servers.
-pub fn pick(servers: [Server; 64], n: u32, walk: Walk) -> Picked
-    ensures { λ r. ⌜ r ≡ weightedRoundRobin .pick servers n walk ⌝ }
-{
-    pick_with(
-        servers,
-        n,
-        weights_gcd(servers, n),
-        largest(servers, n),
-        walk,
-    )
 }

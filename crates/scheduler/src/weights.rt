@@ -1,27 +1,22 @@
-// What weighted round-robin needs of all the weights: the largest, and the greatest common divisor.
+// What weighted round-robin needs of all the weights: the largest, and the greatest common divisor. A state holds both, so that a pick
+// doesn't work them out.
 use servers::Server;
 use servers::ServerNo;
-use servers::weight_at;
 ghost use mathlib.Core.Path.{_≡_};
-ghost use Prim.Native.Nat.{max};
-ghost use Rattle.scheduler.specs.Weights.{gcdOf, weightsGcd, largestOf};
+ghost use Prim.Native.Nat.{_≤_, max};
+ghost use Rattle.scheduler.specs.Weights.{gcdOf, weightsOf, weightsAgree};
+
+// The largest weight of the servers in use, and the greatest common divisor of their weights: both 0 where every weight is 0.
+pub struct Weights {
+    pub largest: u16,
+    pub divisor: u16,
+}
 
 // The greatest common divisor of two numbers, by Euclid's recursion: the remainder falls.
 fn gcd(a: u16, b: u16) -> u16
     ensures { λ r. ⌜ r ≡ gcdOf a b ⌝ }
 {
     if b == 0 { a } else { gcd(b, a % b) }
-}
-
-// The greatest common divisor of the first n weights; zeros don't affect it.
-pub fn weights_gcd(servers: [Server; 64], n: u32) -> u16
-    ensures { λ r. ⌜ r ≡ weightsGcd servers n ⌝ }
-{
-    let mut divisor = 0;
-    for i in 0..n {
-        divisor = gcd(divisor, weight_at(servers, ServerNo(i)));
-    }
-    divisor
 }
 
 // The greater of two weights.
@@ -31,13 +26,28 @@ fn greater(a: u16, b: u16) -> u16
     if a < b { b } else { a }
 }
 
-// The largest of the first n weights: 0 where every weight is 0.
-pub fn largest(servers: [Server; 64], n: u32) -> u16
-    ensures { λ r. ⌜ r ≡ largestOf servers n ⌝ }
+// Both numbers of the first n weights, which are read in place: a call for each server would copy the array.
+pub fn weights_of(servers: [Server; 64], n: u32) -> Weights
+    requires { ⌜ n ≤ 64 ⌝ }
+    ensures { λ r. ⌜ r ≡ weightsOf servers n ⌝ }
 {
-    let mut top = 0;
+    let mut largest = 0;
+    let mut divisor = 0;
     for i in 0..n {
-        top = greater(top, weight_at(servers, ServerNo(i)));
+        let no = ServerNo(i);
+        let at = no.0 as usize;
+        let server = servers[at];
+        largest = greater(largest, server.weight);
+        divisor = gcd(server.weight, divisor);
     }
-    top
+    Weights { largest, divisor }
+}
+
+// Whether the numbers held are those that the weights give.
+pub fn weights_agree(held: Weights, servers: [Server; 64], n: u32) -> bool
+    requires { ⌜ n ≤ 64 ⌝ }
+    ensures { λ r. ⌜ r ≡ weightsAgree held servers n ⌝ }
+{
+    let given = weights_of(servers, n);
+    (held.largest == given.largest) & (held.divisor == given.divisor)
 }

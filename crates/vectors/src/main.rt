@@ -1,13 +1,16 @@
-// The examples that are not proved (SCOPE E1 to E4), the published vectors of RFC 1071 and 1624, sums, edits in a row, renewals, and header checksums, run.
+// The examples that are not proved (SCOPE E1 to E4), the published vectors of RFC 1071 and 1624, sums, edits in a row, renewals, header
+// checksums, and what the state holds of the weights, run.
 mod editing;
 mod header;
 mod renewal;
 mod sums;
+mod weights;
 
 use crate::editing::edits_in_a_row;
 use crate::header::header_checksums;
 use crate::renewal::renewals;
 use crate::sums::sums;
+use crate::weights::weights;
 use checksum::edit;
 use checksum::ones_sum;
 use director::control::set_weight;
@@ -108,4 +111,5 @@ fn main() {
     rows();
     renewals();
     header_checksums();
+    weights();
 }

@@ -23,7 +23,7 @@ returns-5 : tie.Need-returns-5
 returns-5 c =
     let a = c .before .before .args in
     let k = c .before .match .rest in
-    c .is-held .ensures ∙ ap (λ (s : Scheduler). s .inRange (a .servers) (a .n) (a .walk)) (other-number (a .scheduler) (k .0 .0 .0 .1) (k .0 .0 .1) (k .0 .1) (k .1))
+    c .is-held .ensures ∙ ap (λ (s : Scheduler). s .inRange (a .top) (a .n) (a .walk)) (other-number (a .scheduler) (k .0 .0 .0 .1) (k .0 .0 .1) (k .0 .1) (k .1))
 
 pub in-range-spec : {M : Type 1} → statement M
 in-range-spec =

@@ -23,7 +23,7 @@ returns-5 : tie.Need-returns-5
 returns-5 c =
     let a = c .before .args in
     let k = c .match .rest in
-    ap (λ (s : Scheduler). s .pick (a .servers) (a .n) (a .walk)) (other-number (a .scheduler) (k .0 .0 .0 .1) (k .0 .0 .1) (k .0 .1) (k .1))
+    ap (λ (s : Scheduler). s .pick (a .servers) (a .n) (a .held) (a .walk)) (other-number (a .scheduler) (k .0 .0 .0 .1) (k .0 .0 .1) (k .0 .1) (k .1))
 
 pub pick-spec : {M : Type 1} → statement M
 pick-spec =

@@ -8,7 +8,7 @@ use Rattle.director.proofs.clock.settle.Tie as tie
 
 expire-requires : tie.Need-expire-requires
 expire-requires c κs =
-    let a = c .before .before .before .before .before in
+    let a = c .before .before .before .before .before .before in
     let d = a .args .director in
     let s = sound-parts _ _ (a .pre .0) in
     (s .settings .most, later-table (d .service .protocol) (d .service .servers) (d .clock) (a .args .row .now) (d .servers) (s .table) (a .args .clock) (a .pre .1))

@@ -1,9 +1,16 @@
--- `control::set_weight` meets its contract: each arm rewrites with what was said of the number.
+-- `control::set_weight` meets its contract: each arm rewrites with what was said of the number; accepted, there are at most 64 servers.
 -- Assumes nothing.
+use mathlib.Core.Path.{sym, _∙_}
 use borrow.Author.Needs.{needs}
 use Rattle.director.specs.Control.{weightOf}
+use Rattle.director.proofs.Sound.{sound-parts, numbered}
 use Rattle.director.proofs.control.set_weight.Statement.{statement}
 use Rattle.director.proofs.control.set_weight.Tie as tie
+
+with-server-weight-requires : tie.Need-with-server-weight-requires
+with-server-weight-requires c κs =
+    let told = c .before .before .judge-number .ensures in
+    sound-parts _ _ (numbered _ _ _ (sym told ∙ c .enum-told .given .1)) .settings .most
 
 returns : tie.Need-returns
 unfolding weightOf
@@ -21,6 +28,6 @@ set-weight-spec =
     (λ c. search needs)
     (λ c κs. search needs)
     (λ c. search needs)
-    (λ c κs. search needs)
+    with-server-weight-requires
     returns
     returns-2)

@@ -9,7 +9,15 @@ use Rattle.nidhaaguf.proofs.reply.state_after.Tie as tie
 
 -- a state at another place
 abbrev placed : State → ℕ → State
-placed s place = record { service = s .service; clock = s .clock; servers = s .servers; place = place; level = s .level }
+placed s place = record {
+  service = s .service;
+  clock = s .clock;
+  servers = s .servers;
+  place = place;
+  level = s .level;
+  «largest_weight» = s .«largest_weight»;
+  «weight_divisor» = s .«weight_divisor»;
+}
 
 returns : tie.Need-returns
 returns c given known =
