@@ -84,13 +84,21 @@ typedef struct {
     NidhaagufServer server[NIDHAAGUF_SERVERS];
 } NidhaagufServers;
 
-/* The state: made by setup, to be handed on from call to call together with its row. To look at, not to change. */
+/*
+ * The state: made by setup, to be handed on from call to call together with its row. To look at, not to change.
+ *
+ * The last two fields are true after every accepted setup and weight call, whatever the scheduler, and a state in which they
+ * are not gets 15. A state that was kept by a library without them is completed by a setup of its own service and servers
+ * over a row of five words elsewhere: the two are in the state that it gives back.
+ */
 typedef struct {
     NidhaagufService service;
     uint32_t         clock; /* the latest accepted clock, in seconds */
     NidhaagufServer  servers[NIDHAAGUF_SERVERS];
-    uint64_t         place; /* the scheduler's walk: 0 before the first server, k + 1 at server k */
-    uint16_t         level; /* the level of weighted round-robin */
+    uint64_t         place;          /* the scheduler's walk: 0 before the first server, k + 1 at server k */
+    uint16_t         level;          /* the level of weighted round-robin */
+    uint16_t         largest_weight; /* of the servers in use (SCOPE 2.12); 0 where every weight is 0 */
+    uint16_t         weight_divisor; /* the greatest common divisor of their weights; 0 where every weight is 0 */
 } NidhaagufState;
 
 /* What a call gives back. */
@@ -133,13 +141,49 @@ typedef struct {
     uint32_t       unsent;  /* of these, accepted ones that the descriptor didn't take: write failed */
 } NidhaagufServed;
 
-NIDHAAGUF_ASSERT(sizeof(NidhaagufServer) == 12, "layout of NidhaagufServer");
-NIDHAAGUF_ASSERT(sizeof(NidhaagufService) == 12, "layout of NidhaagufService");
-NIDHAAGUF_ASSERT(sizeof(NidhaagufServers) == 768, "layout of NidhaagufServers");
-NIDHAAGUF_ASSERT(sizeof(NidhaagufState) == 800, "layout of NidhaagufState");
-NIDHAAGUF_ASSERT(sizeof(NidhaagufAnswer) == 816, "layout of NidhaagufAnswer");
-NIDHAAGUF_ASSERT(sizeof(NidhaagufRecord) == 16, "layout of NidhaagufRecord");
-NIDHAAGUF_ASSERT(sizeof(NidhaagufServed) == 816, "layout of NidhaagufServed");
+/* The layout: each struct's size, and where its fields are. */
+#define NIDHAAGUF_SIZE_IS(type, size) NIDHAAGUF_ASSERT(sizeof(type) == (size), "size of " #type)
+#define NIDHAAGUF_OFFSET_IS(type, field, offset) NIDHAAGUF_ASSERT(offsetof(type, field) == (offset), "offset of " #field " in " #type)
+
+NIDHAAGUF_SIZE_IS(NidhaagufServer, 12);
+NIDHAAGUF_OFFSET_IS(NidhaagufServer, address, 0);
+NIDHAAGUF_OFFSET_IS(NidhaagufServer, port, 4);
+NIDHAAGUF_OFFSET_IS(NidhaagufServer, weight, 6);
+NIDHAAGUF_OFFSET_IS(NidhaagufServer, count, 8);
+NIDHAAGUF_SIZE_IS(NidhaagufService, 12);
+NIDHAAGUF_OFFSET_IS(NidhaagufService, address, 0);
+NIDHAAGUF_OFFSET_IS(NidhaagufService, port, 4);
+NIDHAAGUF_OFFSET_IS(NidhaagufService, protocol, 6);
+NIDHAAGUF_OFFSET_IS(NidhaagufService, scheduler, 7);
+NIDHAAGUF_OFFSET_IS(NidhaagufService, servers, 8);
+NIDHAAGUF_SIZE_IS(NidhaagufServers, 768);
+NIDHAAGUF_SIZE_IS(NidhaagufState, 800);
+NIDHAAGUF_OFFSET_IS(NidhaagufState, service, 0);
+NIDHAAGUF_OFFSET_IS(NidhaagufState, clock, 12);
+NIDHAAGUF_OFFSET_IS(NidhaagufState, servers, 16);
+NIDHAAGUF_OFFSET_IS(NidhaagufState, place, 784);
+NIDHAAGUF_OFFSET_IS(NidhaagufState, level, 792);
+NIDHAAGUF_OFFSET_IS(NidhaagufState, largest_weight, 794);
+NIDHAAGUF_OFFSET_IS(NidhaagufState, weight_divisor, 796);
+NIDHAAGUF_SIZE_IS(NidhaagufAnswer, 816);
+NIDHAAGUF_OFFSET_IS(NidhaagufAnswer, state, 0);
+NIDHAAGUF_OFFSET_IS(NidhaagufAnswer, refusal, 800);
+NIDHAAGUF_OFFSET_IS(NidhaagufAnswer, number, 804);
+NIDHAAGUF_OFFSET_IS(NidhaagufAnswer, change, 808);
+NIDHAAGUF_SIZE_IS(NidhaagufRecord, 16);
+NIDHAAGUF_OFFSET_IS(NidhaagufRecord, length, 0);
+NIDHAAGUF_OFFSET_IS(NidhaagufRecord, refusal, 4);
+NIDHAAGUF_OFFSET_IS(NidhaagufRecord, server, 8);
+NIDHAAGUF_OFFSET_IS(NidhaagufRecord, change, 12);
+NIDHAAGUF_SIZE_IS(NidhaagufServed, 816);
+NIDHAAGUF_OFFSET_IS(NidhaagufServed, state, 0);
+NIDHAAGUF_OFFSET_IS(NidhaagufServed, refusal, 800);
+NIDHAAGUF_OFFSET_IS(NidhaagufServed, removed, 804);
+NIDHAAGUF_OFFSET_IS(NidhaagufServed, taken, 808);
+NIDHAAGUF_OFFSET_IS(NidhaagufServed, unsent, 812);
+
+#undef NIDHAAGUF_SIZE_IS
+#undef NIDHAAGUF_OFFSET_IS
 
 /* NidhaagufService.protocol */
 enum NidhaagufProtocol {

@@ -62,6 +62,7 @@ mod refusal;
 mod served;
 mod settings;
 mod structs;
+mod weights;
 
 pub use burst::{Answered, Burst};
 pub use director::Director;

@@ -2,7 +2,8 @@
 //!
 //! Most programs want [`crate::Director`], which keeps state and row together. This layer is for programs that keep them
 //! elsewhere (in shared memory, say) or hand in states of their own making: a state and a row that don't fit together
-//! get refusal 15 and are given back as they were.
+//! get refusal 15 and are given back as they were. What of a state follows from its weights,
+//! [`State::with_largest_weight_and_divisor`] fills in.
 //!
 //! ```
 //! use nidhaaguf::raw;

@@ -55,6 +55,9 @@ pub struct State {
     /// The scheduler's walk: 0 before the first server, k + 1 at server k.
     pub place: u64,
     pub level: u16,
+    /// The largest weight of the servers in use, and the greatest common divisor of their weights; 0 where all are 0.
+    pub largest_weight: u16,
+    pub weight_divisor: u16,
 }
 
 /// What a call gives back.
@@ -107,6 +110,8 @@ impl Default for State {
             servers: [Server::default(); PLACES],
             place: 0,
             level: 0,
+            largest_weight: 0,
+            weight_divisor: 0,
         }
     }
 }
@@ -123,6 +128,8 @@ const _: () = assert!(offset_of!(Service, servers) == 8);
 const _: () = assert!(offset_of!(State, service) == 0 && offset_of!(State, clock) == 12);
 const _: () = assert!(offset_of!(State, servers) == 16 && offset_of!(State, place) == 784);
 const _: () = assert!(offset_of!(State, level) == 792);
+const _: () = assert!(offset_of!(State, largest_weight) == 794);
+const _: () = assert!(offset_of!(State, weight_divisor) == 796);
 const _: () = assert!(offset_of!(Answer, state) == 0 && offset_of!(Answer, refusal) == 800);
 const _: () = assert!(offset_of!(Answer, number) == 804 && offset_of!(Answer, change) == 808);
 const _: () = assert!(size_of::<Record>() == 16 && size_of::<Served>() == 816);
