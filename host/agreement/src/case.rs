@@ -1,9 +1,11 @@
 //! A case: a first state and row, and a list of calls, all from one seed.
 
-use crate::call::Call;
+use crate::call::{Call, Told};
 use crate::choose::{self, setup, Mix};
 use crate::world::World;
-use crate::worlds::{breaks::BREAKS, junk, sound};
+use crate::worlds::breaks::{self, BREAKS};
+use crate::worlds::{junk, sound};
+use nidhaaguf::Refusal;
 use random::Rng;
 
 /// What sort of case it is.
@@ -17,6 +19,14 @@ pub enum Kind {
     Broken(usize),
     /// Any state.
     Junk,
+}
+
+impl Kind {
+    /// Rule by rule, whether it is the one that is broken, and a call was answered 15.
+    pub fn broken_rules(self, told: Told) -> impl Iterator<Item = bool> {
+        let is_15 = Refusal::of_number(told.refusal) == Some(Refusal::Unsound);
+        (0..BREAKS.len()).map(move |rule| is_15 && self == Kind::Broken(rule))
+    }
 }
 
 /// What a case is drawn from: two numbers into one, each of them scrambled.
@@ -69,14 +79,9 @@ impl Case {
     }
 
     fn broken(mut rng: Rng) -> Case {
-        loop {
-            let mut first = sound::world(&mut rng);
-            let calls = drawn(&mut rng, &first, 6);
-            let which = rng.below(BREAKS.len());
-            if (BREAKS[which].apply)(&mut rng, &mut first) {
-                return Case { kind: Kind::Broken(which), first, rng, ready: calls, to_draw: 0 };
-            }
-        }
+        let (sound, rule, first) = breaks::world(&mut rng);
+        let ready = drawn(&mut rng, &sound, 6);
+        Case { kind: Kind::Broken(rule), first, rng, ready, to_draw: 0 }
     }
 
     fn junk(mut rng: Rng) -> Case {

@@ -123,9 +123,13 @@ pub(crate) fn state_difference(left: &State, wanted: &State) -> String {
     if left.service != wanted.service {
         parts.push(format!("{:?}, not {:?}", left.service, wanted.service));
     }
-    if left.clock != wanted.clock {
-        parts.push(format!("clock {}, not {}", left.clock, wanted.clock));
-    }
+    let numbers = [
+        ("clock", left.clock, wanted.clock),
+        ("largest weight", left.largest_weight.into(), wanted.largest_weight.into()),
+        ("divisor", left.weight_divisor.into(), wanted.weight_divisor.into()),
+    ];
+    let other = numbers.into_iter().filter(|(_, left, wanted)| left != wanted);
+    parts.extend(other.map(|(name, left, wanted)| format!("{name} {left}, not {wanted}")));
     if left.walk != wanted.walk {
         parts.push(format!("{:?}, not {:?}", left.walk, wanted.walk));
     }

@@ -10,6 +10,7 @@ pub mod call;
 pub mod case;
 pub mod choose;
 pub mod compare;
+pub mod counted;
 pub mod edges;
 pub mod lent;
 pub mod many;

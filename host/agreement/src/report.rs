@@ -2,29 +2,31 @@
 
 use crate::call::Call;
 use crate::case::Kind;
+use crate::counted::Counted;
 use crate::run::{Failure, Met};
 use crate::shorten::{replay, shorten};
 use crate::sides::Side;
+use crate::tally::Tally;
 use crate::worlds::breaks::BREAKS;
 
 /// Everything that a run has met.
 pub fn tables(met: &Met) -> String {
-    let mut text = format!("{}\n{}\n", met.tally, met.edges);
-    text += "15, by the rule that was broken\n";
-    for (rule, times) in BREAKS.iter().zip(met.broken) {
-        text += &format!("{:36}{times:>10}\n", rule.rule);
-    }
-    text
+    tables_of(&met.tally, &met.edges, &met.broken)
+}
+
+pub(crate) fn tables_of(tally: &Tally, edges: &Counted, broken: &Counted) -> String {
+    format!("{tally}\n{edges}\n15, by the rule that was broken\n{broken}\n")
 }
 
 /// What a run should have met more often.
 pub fn complaints(met: &Met) -> Vec<String> {
-    let mut complaints = met.tally.complaints();
-    let least = met.tally.least_of_edges();
-    complaints.extend(met.edges.missed(least));
-    let broken = BREAKS.iter().zip(met.broken).filter(|(_, times)| *times < least);
-    complaints.extend(broken.map(|(rule, times)| format!("\"{}\" met {times} times", rule.rule)));
-    complaints
+    complaints_of(&met.tally, &[&met.edges, &met.broken])
+}
+
+pub(crate) fn complaints_of(tally: &Tally, all_counted: &[&Counted]) -> Vec<String> {
+    let least = tally.least_of_edges();
+    let missed = all_counted.iter().flat_map(|counted| counted.missed(least));
+    tally.complaints().into_iter().chain(missed).collect()
 }
 
 /// A failure, shortened, with the command that replays it.

@@ -3,12 +3,12 @@
 use crate::call::Call;
 use crate::case::{Case, Kind};
 use crate::compare;
-use crate::edges::{self, Edges, Moment};
+use crate::counted::Counted;
+use crate::edges::{self, Moment};
 use crate::sides::{Reference, Side};
 use crate::tally::Tally;
 use crate::world::World;
-use crate::worlds::breaks::BREAKS;
-use nidhaaguf::Refusal;
+use crate::worlds::breaks;
 use reference::book::Book;
 
 /// What a run has met.
@@ -16,16 +16,16 @@ use reference::book::Book;
 pub struct Met {
     pub cases: u64,
     pub tally: Tally,
-    pub edges: Edges,
+    pub edges: Counted,
     /// How many times 15 was answered, by the rule that was broken.
-    pub broken: [usize; BREAKS.len()],
+    pub broken: Counted,
 }
 
 impl Default for Met {
     /// Nothing yet.
     fn default() -> Met {
-        let (tally, broken) = (Tally::default(), [0; BREAKS.len()]);
-        Met { cases: 0, tally, edges: edges::of_calls(), broken }
+        let (edges, broken) = (edges::of_calls(), breaks::rules());
+        Met { cases: 0, tally: Tally::default(), edges, broken }
     }
 }
 
@@ -85,12 +85,9 @@ pub fn run_case(
         };
         let told = stepped.told;
         met.tally.add(call, told);
-        let left = &stepped.packet;
-        met.edges.add(Moment { before: &world, call, told, left }.edges());
-        match (case.kind, Refusal::of_number(told.refusal)) {
-            (Kind::Broken(which), Some(Refusal::Unsound)) => met.broken[which] += 1,
-            _ => {}
-        }
+        let (left, after) = (&stepped.packet, &stepped.world);
+        met.edges.add(Moment { before: &world, call, told, left, after }.edges());
+        met.broken.add(case.kind.broken_rules(told));
         world = stepped.world;
     }
     Ok(())

@@ -57,6 +57,8 @@ pub fn to_library(state: &State) -> raw::State {
         servers: state.servers.map(server_to_library),
         place: (state.walk.place as u64).wrapping_add(1),
         level: state.walk.level,
+        largest_weight: state.largest_weight,
+        weight_divisor: state.weight_divisor,
     }
 }
 
@@ -72,6 +74,8 @@ pub fn from_library(state: &raw::State) -> State {
         servers: back,
         walk: Walk { place: state.place.wrapping_sub(1) as i64, level: state.level },
         clock: state.clock,
+        largest_weight: state.largest_weight,
+        weight_divisor: state.weight_divisor,
     }
 }
 

@@ -49,6 +49,8 @@ impl fmt::Debug for World {
     fn fmt(&self, out: &mut fmt::Formatter<'_>) -> fmt::Result {
         let state = &self.state;
         writeln!(out, "{:?}, clock {}, {:?}", state.service, state.clock, state.walk)?;
+        let (largest, divisor) = (state.largest_weight, state.weight_divisor);
+        writeln!(out, "  largest weight {largest}, divisor {divisor}")?;
         for (number, server) in state.servers.iter().enumerate() {
             let used = number < state.used_servers().len();
             if used || *server != Default::default() {

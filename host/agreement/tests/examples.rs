@@ -6,7 +6,7 @@ use agreement::call::{Call, Told};
 use agreement::world::World;
 use reference::packets::{self, End, Plan, Sum, ACK, FIN, SYN};
 use reference::table::Slot;
-use reference::{Server, Service};
+use reference::{Server, Service, State};
 use support::{refused, told, Both, KEPT, OPENED};
 
 const VIRTUAL: End = (0xC000_020A, 5432);
@@ -49,6 +49,10 @@ impl Both {
         }
         assert!(self.0.is_sound());
         self
+    }
+
+    fn largest_and_divisor(&self) -> (u16, u16) {
+        (self.0.state.largest_weight, self.0.state.weight_divisor)
     }
 
     /// Servers picked for so many new clients.
@@ -175,6 +179,26 @@ fn bad_header_checksums_told_apart() {
     // FFFF where a fresh one is 0000
     let ffff = "45000028 6EC54000 4006FFFF 0A000001 C000020A";
     assert_eq!(answer(ffff, transport), told(0, OPENED));
+}
+
+#[test]
+fn largest_weight_and_divisor() {
+    for scheduler in 1..=4 {
+        let mut both = Both::new(6, scheduler, &[6, 4, 0], 1);
+        assert_eq!(both.largest_and_divisor(), (6, 2));
+        for (number, weight, held) in
+            [(0, 6, (6, 2)), (0, 3, (4, 1)), (0, 0, (4, 4)), (1, 0, (0, 0)), (2, 9, (9, 9))]
+        {
+            assert_eq!(both.make(Call::SetWeight { number, weight }).0, told(0, 0));
+            assert_eq!(both.largest_and_divisor(), held);
+        }
+        let right = both.0.state;
+        for (largest_weight, weight_divisor) in [(8, 9), (9, 3), (0, 0)] {
+            both.0.state = State { largest_weight, weight_divisor, ..right };
+            assert_eq!(both.tick(0), refused(15));
+            assert_eq!(both.make(Call::SetWeight { number: 2, weight: 9 }).0, refused(15));
+        }
+    }
 }
 
 #[test]

@@ -46,6 +46,15 @@ fn each_break_alone_makes_a_world_unsound() {
 }
 
 #[test]
+fn largest_weight_and_divisor_go_by_their_names() {
+    let mut state = junk::world(&mut Rng::new(4)).state;
+    (state.largest_weight, state.weight_divisor) = (6, 2);
+    let other = to_library(&state);
+    assert_eq!((other.largest_weight, other.weight_divisor), (6, 2));
+    assert_eq!(from_library(&other), state);
+}
+
+#[test]
 fn any_place_has_its_other_form() {
     let mut rng = Rng::new(3);
     let mut state = junk::world(&mut rng).state;

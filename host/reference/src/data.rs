@@ -46,6 +46,10 @@ pub struct State {
     pub servers: [Server; PLACES],
     pub walk: Walk,
     pub clock: u32,
+    /// The largest weight of the servers in use, and the greatest common divisor of their weights:
+    /// "0 when all weights are 0".
+    pub largest_weight: u16,
+    pub weight_divisor: u16,
 }
 
 impl State {
@@ -56,6 +60,8 @@ impl State {
             servers: [Server::default(); PLACES],
             walk: Walk::default(),
             clock: 0,
+            largest_weight: 0,
+            weight_divisor: 0,
         }
     }
 
@@ -63,6 +69,11 @@ impl State {
     pub fn used_servers(&self) -> &[Server] {
         let used = (self.service.servers as usize).min(PLACES);
         &self.servers[..used]
+    }
+
+    /// The weights of the servers in use.
+    pub fn weights(&self) -> impl Iterator<Item = u16> + Clone + '_ {
+        self.used_servers().iter().map(|server| server.weight)
     }
 }
 

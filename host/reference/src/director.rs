@@ -10,6 +10,7 @@ use crate::segment::{self, Flags, Segment};
 use crate::settings;
 use crate::soundness::is_sound;
 use crate::table::{self, Slot, SlotNumber};
+use crate::weights;
 
 /// Setup: the present state isn't judged; refused, it stays as it was.
 pub fn set_up(
@@ -27,7 +28,9 @@ pub fn set_up(
     for (place, given) in kept.iter_mut().zip(servers).take(service.servers as usize) {
         *place = Server { count: 0, ..given };
     }
-    *state = State { service, servers: kept, walk: scheduler::start(&service), clock: 0 };
+    let walk = scheduler::start(&service);
+    *state = State { service, servers: kept, walk, clock: 0, ..State::new() };
+    weights::make_true(state);
     Answer::Done
 }
 
@@ -39,6 +42,7 @@ pub fn set_weight(state: &mut State, row: &[u32], number: u32, weight: u16) -> A
     };
     if state.servers[place].weight != weight {
         state.servers[place].weight = weight;
+        weights::make_true(state);
         state.walk = scheduler::after_weight_change(&state.service, state.walk);
     }
     Answer::Done
@@ -184,8 +188,7 @@ fn meet(
 /// A packet that opens: 13, 14 in that order, or the opening. A refusal changes nothing.
 fn open(state: &mut State, row: &mut [u32], client: Client) -> Taken {
     let free = table::lowest_free(row).ok_or(refusal::TABLE_FULL)?;
-    let (server, walk) = scheduler::pick(&state.service, state.used_servers(), state.walk)
-        .ok_or(refusal::NO_WEIGHT)?;
+    let (server, walk) = scheduler::pick(state).ok_or(refusal::NO_WEIGHT)?;
     let opened = Slot {
         phase: connection::NONE_FINISHED,
         address: client.address,

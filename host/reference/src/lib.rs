@@ -18,6 +18,7 @@ pub mod segment;
 pub mod settings;
 pub mod soundness;
 pub mod table;
+pub mod weights;
 
 pub use data::{Answer, Change, Server, Service, State, Walk, PLACES};
 pub use director::{count, inbound, outbound, set_up, set_weight, tick};

@@ -13,16 +13,16 @@ pub fn start(service: &Service) -> Walk {
     }
 }
 
-/// The walk's range, scheduler by scheduler.
-pub fn walk_in_range(service: &Service, servers: &[Server], walk: Walk) -> bool {
-    let n = i64::from(service.servers);
-    match service.scheduler {
+/// The walk's range, scheduler by scheduler. Counts on a state whose largest weight is true.
+pub fn walk_in_range(state: &State) -> bool {
+    let (n, walk) = (i64::from(state.service.servers), state.walk);
+    match state.service.scheduler {
         // "Range 0..n−1" and "1 holds cw at 0"
         ROUND_ROBIN => (0..n).contains(&walk.place) && walk.level == 0,
         // "i −1..n−1, cw 0 to the largest weight, cw 0 only with i = −1"
         WEIGHTED_ROUND_ROBIN => {
             (-1..n).contains(&walk.place)
-                && walk.level <= largest_weight(servers)
+                && walk.level <= state.largest_weight
                 && (walk.level != 0 || walk.place == -1)
         }
         // "3 and 4 hold both place and cw at 0 always, and that is their range"
@@ -40,13 +40,14 @@ pub fn after_weight_change(service: &Service, walk: Walk) -> Walk {
 
 /// The pick and the walk after it; None when every weight is 0 (refusal 14).
 /// Counts on a sound state.
-pub fn pick(service: &Service, servers: &[Server], walk: Walk) -> Option<(ServerNumber, Walk)> {
-    if largest_weight(servers) == 0 {
+pub fn pick(state: &State) -> Option<(ServerNumber, Walk)> {
+    let (servers, walk) = (state.used_servers(), state.walk);
+    if state.weights().all(|weight| weight == 0) {
         return None;
     }
-    match service.scheduler {
+    match state.service.scheduler {
         ROUND_ROBIN => round_robin(servers, walk),
-        WEIGHTED_ROUND_ROBIN => weighted_round_robin(servers, walk),
+        WEIGHTED_ROUND_ROBIN => weighted_round_robin(state),
         LEAST_CONNECTION => least(servers, |_| 1).map(|number| (number, walk)),
         _ => least(servers, |server| u64::from(server.weight)).map(|number| (number, walk)),
     }
@@ -63,10 +64,10 @@ fn round_robin(servers: &[Server], walk: Walk) -> Option<(ServerNumber, Walk)> {
 
 /// 2: steps until a server has weight at least cw. A largest weight stands within any n places,
 /// and cw is never above it, so n steps are enough.
-fn weighted_round_robin(servers: &[Server], walk: Walk) -> Option<(ServerNumber, Walk)> {
-    let mut walk = walk;
+fn weighted_round_robin(state: &State) -> Option<(ServerNumber, Walk)> {
+    let (servers, mut walk) = (state.used_servers(), state.walk);
     for _ in 0..servers.len() {
-        walk = step(servers, walk);
+        walk = step(state, walk);
         let number = usize::try_from(walk.place).ok()?;
         if servers[number].weight >= walk.level {
             return Some((ServerNumber(number), walk));
@@ -76,14 +77,14 @@ fn weighted_round_robin(servers: &[Server], walk: Walk) -> Option<(ServerNumber,
 }
 
 /// "i becomes (i+1) mod n; if i is 0, cw drops by the greatest common divisor of all weights,
-/// and if not above 0 becomes the largest weight"
-fn step(servers: &[Server], walk: Walk) -> Walk {
-    let place = (walk.place + 1) % servers.len() as i64;
+/// and if not above 0 becomes the largest weight"; "scheduler 2's pick takes them from there"
+fn step(state: &State, walk: Walk) -> Walk {
+    let place = (walk.place + 1) % state.used_servers().len() as i64;
     if place != 0 {
         return Walk { place, level: walk.level };
     }
-    let level = match walk.level.checked_sub(weights_divisor(servers)) {
-        None | Some(0) => largest_weight(servers),
+    let level = match walk.level.checked_sub(state.weight_divisor) {
+        None | Some(0) => state.largest_weight,
         Some(above) => above,
     };
     Walk { place, level }
@@ -106,21 +107,4 @@ fn least(servers: &[Server], divisor: impl Fn(&Server) -> u64) -> Option<ServerN
         }
     }
     best.map(ServerNumber)
-}
-
-fn largest_weight(servers: &[Server]) -> u16 {
-    servers.iter().map(|server| server.weight).max().unwrap_or(0)
-}
-
-/// "the greatest common divisor of all weights (zeros don't affect it)"
-fn weights_divisor(servers: &[Server]) -> u16 {
-    servers.iter().fold(0, |divisor, server| common_divisor(divisor, server.weight))
-}
-
-/// Euclid; 0 with any number is that number.
-fn common_divisor(a: u16, b: u16) -> u16 {
-    match b {
-        0 => a,
-        _ => common_divisor(b, a % b),
-    }
 }

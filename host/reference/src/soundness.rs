@@ -13,7 +13,9 @@ pub fn is_sound(state: &State, row: &[u32]) -> bool {
         && unused_places_are_zeros(state)
         && slots_are_sound(state, row)
         && counts_are_true(state, row)
-        && scheduler::walk_in_range(&state.service, state.used_servers(), state.walk)
+        && is_largest_weight_true(state)
+        && is_weight_divisor_true(state)
+        && scheduler::walk_in_range(state)
 }
 
 /// "unused server places are zeros"
@@ -51,4 +53,29 @@ fn counts_are_true(state: &State, row: &[u32]) -> bool {
     }
     let servers = state.servers.iter();
     servers.zip(counts).all(|(server, count)| server.count == count)
+}
+
+/// "that they agree with the weights": it is some server's weight, and none is above it.
+fn is_largest_weight_true(state: &State) -> bool {
+    let largest = state.largest_weight;
+    state.weights().any(|weight| weight == largest)
+        && state.weights().all(|weight| weight <= largest)
+}
+
+/// It divides every weight, and no larger number does; 0 where every weight is 0.
+fn is_weight_divisor_true(state: &State) -> bool {
+    let divisor = state.weight_divisor;
+    let Some(smallest) = state.weights().filter(|&weight| weight > 0).min() else {
+        return divisor == 0;
+    };
+    let divides_all = |number| state.weights().all(|weight| weight % number == 0);
+    // what divides every weight is a divisor of the smallest above 0
+    let mut larger = divisors(smallest).filter(|&number| number > divisor);
+    divisor > 0 && divides_all(divisor) && !larger.any(divides_all)
+}
+
+/// All divisors of a number that isn't 0: each up to its root, beside the quotient.
+fn divisors(number: u16) -> impl Iterator<Item = u16> {
+    let low = (1..=number.isqrt()).filter(move |low| number.is_multiple_of(*low));
+    low.flat_map(move |low| [low, number / low])
 }

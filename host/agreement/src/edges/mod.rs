@@ -1,12 +1,11 @@
 //! Which edges a run has met, so that a generator that has lost one is seen.
 
 mod checksum;
-mod counted;
 mod renewal;
-
-pub use counted::Edges;
+mod weights;
 
 use crate::call::{Call, Told};
+use crate::counted::Counted;
 use crate::world::World;
 use nidhaaguf::Refusal;
 use reference::connection::idle_limit;
@@ -18,6 +17,7 @@ pub struct Moment<'a> {
     pub call: &'a Call,
     pub told: Told,
     pub left: &'a [u8],
+    pub after: &'a World,
 }
 
 type Edge = (&'static str, fn(&Moment) -> bool);
@@ -139,16 +139,13 @@ impl Moment<'_> {
         slots.filter(|s| s[0] != 0 && s[1] == address && s[2] == port).count() > 1
     }
 
-    fn weights(&self) -> impl Iterator<Item = u16> + '_ {
-        self.before.state.used_servers().iter().map(|server| server.weight)
-    }
-
     fn has_both_weights(&self) -> bool {
-        self.weights().any(|weight| weight == 0) && self.weights().any(|weight| weight == 65_535)
+        let has = |wanted| self.before.state.weights().any(|weight| weight == wanted);
+        has(0) && has(65_535)
     }
 
     fn is_weightless(&self) -> bool {
-        self.weights().all(|weight| weight == 0)
+        self.before.state.weights().all(|weight| weight == 0)
     }
 
     fn sets_equal_weight(&self) -> bool {
@@ -163,10 +160,10 @@ impl Moment<'_> {
 
 /// All edges of single calls.
 fn all() -> impl Iterator<Item = &'static Edge> {
-    EDGES.iter().chain(&renewal::EDGES).chain(&checksum::EDGES)
+    EDGES.iter().chain(&renewal::EDGES).chain(&checksum::EDGES).chain(&weights::EDGES)
 }
 
 /// The edges of single calls, none met.
-pub fn of_calls() -> Edges {
-    Edges::new(all().map(|(name, _)| *name))
+pub fn of_calls() -> Counted {
+    Counted::new(all().map(|(name, _)| *name))
 }

@@ -7,7 +7,7 @@ use crate::case::{rng, Kind};
 use crate::choose::clock::clock;
 use crate::choose::packet::{inbound, outbound, some_client, used_slot};
 use crate::world::World;
-use crate::worlds::{breaks::BREAKS, junk, sound};
+use crate::worlds::{breaks, junk, sound};
 use random::Rng;
 use reference::data::UDP;
 use reference::packets;
@@ -27,8 +27,8 @@ pub struct Case {
     pub kind: Kind,
     pub first: World,
     rng: Rng,
-    /// One that is already drawn.
-    ready: Option<Many>,
+    /// Those that are already drawn, the last one first.
+    ready: Vec<Many>,
     /// How many are still to be drawn for the world as it then is.
     to_draw: usize,
 }
@@ -37,37 +37,34 @@ impl Case {
     /// The case of this number.
     pub fn new(seed: u64, number: u64) -> Case {
         let mut rng = rng(seed, number);
-        let first = sound::world(&mut rng);
         match rng.below(1_000) {
-            0..=99 => Case::broken(rng, first),
-            100..=149 => Case::junk(rng, first),
+            0..=299 => Case::broken(rng),
+            300..=349 => Case::junk(rng),
             _ => {
-                let to_draw = rng.one_of(&[1, 1, 2, 4]);
-                Case { kind: Kind::Sound, first, rng, ready: None, to_draw }
+                let (first, to_draw) = (sound::world(&mut rng), rng.one_of(&[1, 1, 2, 4]));
+                Case { kind: Kind::Sound, first, rng, ready: Vec::new(), to_draw }
             }
         }
     }
 
-    /// What was drawn for a sound world is made on one that is sound no more.
-    fn broken(mut rng: Rng, mut first: World) -> Case {
-        let ready = Some(many(&mut rng, &first));
-        let mut which = rng.below(BREAKS.len());
-        while !(BREAKS[which].apply)(&mut rng, &mut first) {
-            which = rng.below(BREAKS.len());
-        }
-        Case { kind: Kind::Broken(which), first, rng, ready, to_draw: 0 }
+    /// What was drawn for a sound world is made on one that is sound no more; refused, it leaves that as it was.
+    fn broken(mut rng: Rng) -> Case {
+        let (sound, rule, first) = breaks::world(&mut rng);
+        let ready = (0..3).map(|_| many(&mut rng, &sound)).collect();
+        Case { kind: Kind::Broken(rule), first, rng, ready, to_draw: 0 }
     }
 
-    fn junk(mut rng: Rng, mut first: World) -> Case {
-        let ready = Some(many(&mut rng, &first));
+    fn junk(mut rng: Rng) -> Case {
+        let mut first = sound::world(&mut rng);
+        let ready = vec![many(&mut rng, &first)];
         junk::stir(&mut rng, &mut first);
         Case { kind: Kind::Junk, first, rng, ready, to_draw: 0 }
     }
 
     /// The next one, for the world as it is now.
     pub fn next(&mut self, world: &World) -> Option<Many> {
-        if self.ready.is_some() || self.to_draw == 0 {
-            return self.ready.take();
+        if !self.ready.is_empty() || self.to_draw == 0 {
+            return self.ready.pop();
         }
         self.to_draw -= 1;
         Some(many(&mut self.rng, world))

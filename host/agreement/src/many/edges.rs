@@ -4,7 +4,7 @@ use super::call::{Burst, Many, Serve};
 use super::other_end::OtherEnd;
 use super::singly::{Singly, Step, Way};
 use super::wanted::{counter_of, Wanted};
-use crate::edges::Edges;
+use crate::counted::Counted;
 
 /// A burst or serve that was made, and the single calls that it stands for.
 pub struct Moment<'a> {
@@ -90,16 +90,16 @@ fn is_out(step: &Step) -> bool {
     step.way == Way::Outbound
 }
 
-fn names<T>(own: &'static [Edge<T>]) -> Edges {
+fn names<T>(own: &'static [Edge<T>]) -> Counted {
     let both = BOTH.iter().map(|(name, _)| *name);
-    Edges::new(both.chain(own.iter().map(|(name, _)| *name)))
+    Counted::new(both.chain(own.iter().map(|(name, _)| *name)))
 }
 
-pub fn of_bursts() -> Edges {
+pub fn of_bursts() -> Counted {
     names(&BURSTS)
 }
 
-pub fn of_serves() -> Edges {
+pub fn of_serves() -> Counted {
     names(&SERVES)
 }
 

@@ -3,7 +3,7 @@
 use super::call::Many;
 use super::run::{replay, Met};
 use super::sides::ManySide;
-use crate::report::disagreement;
+use crate::report::{complaints_of, disagreement, tables_of};
 use crate::run::Failure;
 use crate::shorten::shorten;
 
@@ -12,7 +12,7 @@ pub fn tables(met: &Met) -> String {
     let mut text = String::new();
     for (name, met) in [("bursts", &met.bursts), ("serves", &met.serves)] {
         text += &format!("{} {name}, {} packets\n", met.calls, met.packets);
-        text += &format!("{}\n{}\n", met.tally, met.edges);
+        text += &tables_of(&met.tally, &met.edges, &met.broken);
     }
     text
 }
@@ -21,9 +21,8 @@ pub fn tables(met: &Met) -> String {
 pub fn complaints(met: &Met) -> Vec<String> {
     let mut all = Vec::new();
     for (name, met) in [("bursts", &met.bursts), ("serves", &met.serves)] {
-        let edges = met.edges.missed(met.tally.least_of_edges());
-        let complaints = met.tally.complaints().into_iter().chain(edges);
-        all.extend(complaints.map(|complaint| format!("{name}: {complaint}")));
+        let complaints = complaints_of(&met.tally, &[&met.edges, &met.broken]);
+        all.extend(complaints.into_iter().map(|complaint| format!("{name}: {complaint}")));
     }
     all
 }

@@ -9,10 +9,11 @@ use super::singly::single_call;
 use super::wanted::{wanted, Wanted};
 use crate::call::Call;
 use crate::case::Kind;
-use crate::edges::Edges;
+use crate::counted::Counted;
 use crate::run::{Failure, Naming};
 use crate::tally::Tally;
 use crate::world::World;
+use crate::worlds::breaks;
 
 /// What a run has met, of bursts or of serves.
 #[derive(Clone, Debug)]
@@ -20,7 +21,9 @@ pub struct MetOf {
     pub calls: usize,
     pub packets: usize,
     pub tally: Tally,
-    pub edges: Edges,
+    pub edges: Counted,
+    /// How many times 15 was answered, by the rule that was broken.
+    pub broken: Counted,
 }
 
 /// What a run has met.
@@ -32,16 +35,18 @@ pub struct Met {
 }
 
 impl MetOf {
-    fn new(edges: Edges) -> MetOf {
-        MetOf { calls: 0, packets: 0, tally: Tally::of_many(), edges }
+    fn new(edges: Counted) -> MetOf {
+        let (tally, broken) = (Tally::of_many(), breaks::rules());
+        MetOf { calls: 0, packets: 0, tally, edges, broken }
     }
 
-    fn add(&mut self, moment: &Moment) {
+    fn add(&mut self, kind: Kind, moment: &Moment) {
         let Wanted { singly, .. } = moment.wanted;
         let clock = singly.clock;
         self.calls += 1;
         self.packets += singly.steps.len();
         self.tally.add(&Call::Tick { clock }, singly.tick);
+        self.broken.add(kind.broken_rules(singly.tick));
         for step in &singly.steps {
             self.tally.add(&single_call(step.way, &[], clock), step.told);
         }
@@ -61,14 +66,14 @@ impl Met {
         self.bursts.packets + self.serves.packets
     }
 
-    fn add(&mut self, moment: &Moment) {
+    fn add(&mut self, kind: Kind, moment: &Moment) {
         match moment.many.form {
             Form::Burst(ref burst) => {
-                self.bursts.add(moment);
+                self.bursts.add(kind, moment);
                 self.bursts.edges.add(moment.edges_of_burst(burst));
             }
             Form::Serve(ref serve) => {
-                self.serves.add(moment);
+                self.serves.add(kind, moment);
                 self.serves.edges.add(moment.edges_of_serve(serve));
             }
         }
@@ -106,7 +111,7 @@ pub fn run_case(
                 return Err(Box::new(Failure { seed, number, kind, first, calls, complaint }));
             }
         };
-        met.add(&Moment { many, wanted: &wanted });
+        met.add(case.kind, &Moment { many, wanted: &wanted });
         world = wanted.singly.world;
     }
     Ok(())

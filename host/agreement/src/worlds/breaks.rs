@@ -1,10 +1,12 @@
 //! Breaking one rule of a sound state and row at a time.
 
+use super::sound;
+use crate::counted::Counted;
 use crate::world::World;
 use random::Rng;
 use reference::data::UDP;
 use reference::table::FREE;
-use reference::PLACES;
+use reference::{State, PLACES};
 
 /// One way to break a rule. It is tried on a sound world, and tells whether there was something to break.
 pub struct Break {
@@ -17,7 +19,7 @@ const fn rule(rule: &'static str, apply: fn(&mut Rng, &mut World) -> bool) -> Br
 }
 
 /// All of them; each leaves a state that is not sound.
-pub const BREAKS: [Break; 25] = [
+pub const BREAKS: [Break; 33] = [
     rule("1: servers not 1..64", |rng, world| {
         put(&mut world.state.service.servers, rng.one_of(&[0, 65, 256, u32::MAX]))
     }),
@@ -112,7 +114,32 @@ pub const BREAKS: [Break; 25] = [
     }),
     rule("walk's place", wrong_place),
     rule("walk's level", wrong_level),
+    rule("largest weight, scheduler 1", wrong_largest::<1>),
+    rule("largest weight, scheduler 2", wrong_largest::<2>),
+    rule("largest weight, scheduler 3", wrong_largest::<3>),
+    rule("largest weight, scheduler 4", wrong_largest::<4>),
+    rule("divisor, scheduler 1", wrong_divisor::<1>),
+    rule("divisor, scheduler 2", wrong_divisor::<2>),
+    rule("divisor, scheduler 3", wrong_divisor::<3>),
+    rule("divisor, scheduler 4", wrong_divisor::<4>),
 ];
+
+/// The broken rules, none met.
+pub fn rules() -> Counted {
+    Counted::new(BREAKS.iter().map(|broken| broken.rule))
+}
+
+/// A sound world, the rule that is broken (each is as likely), and the world with it broken.
+pub fn world(rng: &mut Rng) -> (World, usize, World) {
+    let rule = rng.below(BREAKS.len());
+    loop {
+        let sound = sound::world(rng);
+        let mut broken = sound.clone();
+        if (BREAKS[rule].apply)(rng, &mut broken) {
+            return (sound, rule, broken);
+        }
+    }
+}
 
 /// Puts a value; tells whether it differs from the one before.
 fn put<T: PartialEq>(place: &mut T, value: T) -> bool {
@@ -186,8 +213,7 @@ fn wrong_place(rng: &mut Rng, world: &mut World) -> bool {
 }
 
 fn wrong_level(rng: &mut Rng, world: &mut World) -> bool {
-    let used = world.state.used_servers();
-    let largest = used.iter().map(|server| server.weight).max().unwrap_or(0);
+    let largest = world.state.largest_weight;
     let walk = &mut world.state.walk;
     match (world.state.service.scheduler, largest.checked_add(1)) {
         (2, _) if walk.place != -1 && rng.permille(500) => put(&mut walk.level, 0),
@@ -195,4 +221,28 @@ fn wrong_level(rng: &mut Rng, world: &mut World) -> bool {
         (2, None) => false,
         _ => put(&mut walk.level, rng.one_of(&[1, 256, u16::MAX])),
     }
+}
+
+fn wrong_largest<const SCHEDULER: u8>(rng: &mut Rng, world: &mut World) -> bool {
+    wrong_number(rng, world, SCHEDULER, |state| &mut state.largest_weight)
+}
+
+fn wrong_divisor<const SCHEDULER: u8>(rng: &mut Rng, world: &mut World) -> bool {
+    wrong_number(rng, world, SCHEDULER, |state| &mut state.weight_divisor)
+}
+
+/// One of the two that are held of the weights: what the other is, some weight, or a number beside the right one.
+fn wrong_number(
+    rng: &mut Rng,
+    world: &mut World,
+    scheduler: u8,
+    number: fn(&mut State) -> &mut u16,
+) -> bool {
+    let some_weight = world.state.servers[some_server(rng, world)].weight;
+    let State { largest_weight: largest, weight_divisor: divisor, .. } = world.state;
+    let held = number(&mut world.state);
+    let beside = [held.wrapping_add(1), held.wrapping_sub(1), *held ^ 256, *held / 2];
+    let other = [0, 1, largest, divisor, some_weight, u16::MAX];
+    let wrong = if rng.permille(500) { rng.one_of(&beside) } else { rng.one_of(&other) };
+    world.state.service.scheduler == scheduler && put(number(&mut world.state), wrong)
 }

@@ -5,7 +5,7 @@ use crate::world::World;
 use random::Rng;
 use reference::data::{ROUND_ROBIN, UDP, WEIGHTED_ROUND_ROBIN};
 use reference::table::Slot;
-use reference::{Server, State, Walk, PLACES};
+use reference::{weights, Server, State, Walk, PLACES};
 
 /// A sound world.
 pub fn world(rng: &mut Rng) -> World {
@@ -14,9 +14,9 @@ pub fn world(rng: &mut Rng) -> World {
     for (place, server) in servers.iter_mut().zip(given).take(service.servers as usize) {
         *place = Server { count: 0, ..server };
     }
-    let clock = clock(rng);
-    let state = State { service, servers, walk: Walk { place: 0, level: 0 }, clock };
+    let state = State { service, servers, clock: clock(rng), ..State::new() };
     let mut world = World { state, row: vec![0; setup::slots(rng) * 5] };
+    weights::make_true(&mut world.state);
     world.state.walk = walk(rng, &world);
     fill(rng, &mut world);
     debug_assert!(world.is_sound(), "{world:?}");
@@ -86,10 +86,10 @@ fn walk(rng: &mut Rng, world: &World) -> Walk {
     match world.state.service.scheduler {
         ROUND_ROBIN => Walk { place: rng.below(n) as i64, level: 0 },
         WEIGHTED_ROUND_ROBIN => {
-            let largest = servers.iter().map(|server| server.weight).max().unwrap_or(0);
+            let State { largest_weight: largest, weight_divisor: divisor, .. } = world.state;
             let middle = servers[rng.below(n)].weight;
             let any = rng.below(usize::from(largest) + 1) as u16;
-            let level = rng.one_of(&[0, 1.min(largest), middle, any, largest]);
+            let level = rng.one_of(&[0, 1.min(largest), divisor, middle, any, largest]);
             // "cw 0 only with i = -1"; at -1 cw may be anything
             let place = if level == 0 { -1 } else { rng.below(n + 1) as i64 - 1 };
             Walk { place, level }

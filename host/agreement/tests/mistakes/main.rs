@@ -7,3 +7,4 @@ mod packets;
 mod renewal;
 mod state;
 mod support;
+mod weights;

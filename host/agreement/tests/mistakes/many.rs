@@ -69,6 +69,12 @@ fn packets_of_a_refused_tick_taken() {
 }
 
 #[test]
+fn largest_weight_and_divisor_not_judged() {
+    is_found_in(Bursts, Mistake::WeightNumbersUnjudged, 0, "refusal: 15");
+    is_found_in(Serves, Mistake::WeightNumbersUnjudged, 0, "refusal: 15");
+}
+
+#[test]
 fn the_record_of_the_next_place_written() {
     is_found_in(Bursts, Mistake::RecordOfNextPlace, 1, "records");
 }

@@ -5,7 +5,7 @@ use agreement::many::sides::{LentToBurst, LentToServe, ManySide, ToldOfMany};
 use agreement::many::singly::{single_call, way_of, Way};
 use agreement::many::wanted::EACH_WAY;
 use agreement::sides::{Reference, Side};
-use reference::{is_sound, refusal, State};
+use reference::{is_sound, refusal, weights, State};
 use std::os::unix::net::UnixDatagram;
 
 /// Bursts and serves by the reference's single calls, with a mistake in one of the two forms.
@@ -22,6 +22,7 @@ pub enum Mistake {
     SecondSeesStateBeforeFirst,
     RemovalLeftOut,
     RefusedTickOverlooked,
+    WeightNumbersUnjudged,
     // of bursts
     RecordOfNextPlace,
     LongPacketCutTo2047,
@@ -49,6 +50,9 @@ struct Taker<'a> {
 impl Taker<'_> {
     /// What the tick tells, and whether packets are taken after it.
     fn tick(&mut self) -> (Told, bool) {
+        if self.mistake == Mistake::WeightNumbersUnjudged {
+            weights::make_true(self.state);
+        }
         let is_later = self.clock >= self.state.clock && is_sound(self.state, self.row);
         if self.mistake == Mistake::RemovalLeftOut && is_later {
             self.state.clock = self.clock;

@@ -5,7 +5,7 @@ use agreement::call::{Call, Told};
 use agreement::sides::{Reference, Side};
 use reference::data::{Client, LEAST_CONNECTION};
 use reference::table::{self, Slot, SlotNumber, FREE};
-use reference::{connection, header, refusal, scheduler, segment, State};
+use reference::{connection, header, refusal, scheduler, segment, weights, State, PLACES};
 
 /// A finished connection that a SYN meets: its slot, and state and row once the clock is accepted.
 struct Met {
@@ -72,6 +72,12 @@ fn the_old_one_refreshed_by_14() {
     assert!(complaint.starts_with("row"), "{complaint}");
 }
 
+fn put_weights(state: &mut State, given: [u16; PLACES]) {
+    let places = state.servers.iter_mut().zip(given);
+    places.for_each(|(server, weight)| server.weight = weight);
+    weights::make_true(state);
+}
+
 /// Picks before the old connection is taken off.
 struct EarlyPick;
 
@@ -79,22 +85,17 @@ impl Side for EarlyPick {
     fn make(&self, call: &Call, state: &mut State, row: &mut [u32], packet: &mut [u8]) -> Told {
         let met = met(call, state, row);
         let by_count = met.filter(|met| met.state.service.scheduler >= LEAST_CONNECTION);
-        let early = by_count.and_then(|Met { state, .. }| {
-            scheduler::pick(&state.service, state.used_servers(), state.walk)
-        });
-        let weights = state.servers.map(|server| server.weight);
+        let early = by_count.and_then(|Met { state, .. }| scheduler::pick(&state));
+        let given = state.servers.map(|server| server.weight);
         if let Some((picked, _)) = early {
             // no other can be picked then
-            state.servers.iter_mut().for_each(|server| server.weight = 0);
-            state.servers[picked.0].weight = 1;
+            let mut alone = [0; PLACES];
+            alone[picked.0] = 1;
+            put_weights(state, alone);
         }
         let told = Reference.make(call, state, row, packet);
         if early.is_some() {
-            state
-                .servers
-                .iter_mut()
-                .zip(weights)
-                .for_each(|(server, weight)| server.weight = weight);
+            put_weights(state, given);
         }
         told
     }

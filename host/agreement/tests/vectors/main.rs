@@ -4,6 +4,7 @@ mod checksum;
 mod editing;
 mod renewal;
 mod sums;
+mod weights;
 mod written;
 
 use reference::checksum::edit_word;
@@ -48,5 +49,6 @@ fn the_second_implementation_writes_what_the_gate_stores() {
     calls(&mut text);
     renewal::renewals(&mut text);
     checksum::header_checksums(&mut text);
+    weights::largest_and_divisor(&mut text);
     assert_eq!(text, include_str!("../../../../crates/vectors/stdout"));
 }

@@ -23,13 +23,24 @@ pub struct Written<'a> {
 
 impl Written<'_> {
     /// Setup of some servers of weight 1 over a row of some words.
-    pub fn set_up(text: &mut String, scheduler: u8, servers: u32, words: usize) -> Written<'_> {
+    pub fn set_up(text: &mut String, scheduler: u8, servers: usize, words: usize) -> Written<'_> {
+        Written::set_up_weights(text, scheduler, &vec![1; servers], words)
+    }
+
+    /// Setup of a server for each of these weights.
+    pub fn set_up_weights<'a>(
+        text: &'a mut String,
+        scheduler: u8,
+        weights: &[u16],
+        words: usize,
+    ) -> Written<'a> {
         let mut all = [Server::default(); reference::PLACES];
-        for (number, place) in (0..servers).zip(&mut all) {
-            let (address, port) = server(number);
-            *place = Server { address, port, weight: 1, count: 0 };
+        for (number, (place, &weight)) in all.iter_mut().zip(weights).enumerate() {
+            let (address, port) = server(number as u32);
+            *place = Server { address, port, weight, count: 0 };
         }
         let (address, port) = VIRTUAL;
+        let servers = weights.len() as u32;
         let service = Service { address, port, protocol: 6, scheduler, servers };
         let mut written = Written { text, state: State::new(), row: vec![0; words] };
         let answer = reference::set_up(&mut written.state, service, all, &mut written.row);
@@ -62,6 +73,12 @@ impl Written<'_> {
         let told =
             format!("phase {phase}, client {client}, server {server}, last seen {last_seen}");
         writeln!(self.text, "  {told}").unwrap();
+    }
+
+    /// The two that the state holds of the weights.
+    pub fn largest_and_divisor(&mut self) {
+        let State { largest_weight, weight_divisor, .. } = self.state;
+        writeln!(self.text, "  largest weight {largest_weight}, divisor {weight_divisor}").unwrap();
     }
 
     pub fn inbound(&mut self, mut packet: Vec<u8>, clock: u32) {

@@ -17,3 +17,4 @@ mod setup;
 mod summing;
 mod support;
 mod unsound;
+mod weights;

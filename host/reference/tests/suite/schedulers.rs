@@ -12,11 +12,12 @@ fn walk(place: i64, level: u16) -> Walk {
 
 /// What scheduler 2 picks from a walk, and the walk after it.
 fn weighted(weights: &[u16], from: Walk) -> (usize, Walk) {
-    let all = servers(weights);
-    let service = service(TCP, 2, weights.len() as u32);
-    assert!(scheduler::walk_in_range(&service, &all[..weights.len()], from));
-    let (number, after) = scheduler::pick(&service, &all[..weights.len()], from).unwrap();
-    assert!(scheduler::walk_in_range(&service, &all[..weights.len()], after));
+    let mut director = Director::new(TCP, 2, weights, 1);
+    director.state.walk = from;
+    assert!(director.sound());
+    let (number, after) = scheduler::pick(&director.state).unwrap();
+    director.state.walk = after;
+    assert!(director.sound());
     (number.0, after)
 }
 

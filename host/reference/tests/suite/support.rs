@@ -29,6 +29,13 @@ pub fn servers(weights: &[u16]) -> [Server; PLACES] {
     all
 }
 
+/// The largest weight and the greatest number that divides every weight, found by trying; 0 where every weight is 0.
+pub fn largest_and_divisor(state: &State) -> (u16, u16) {
+    let largest = state.weights().max().unwrap();
+    let divides_all = |number: &u16| state.weights().all(|weight| weight % number == 0);
+    (largest, (1..=largest).rev().find(divides_all).unwrap_or(0))
+}
+
 #[derive(Clone, PartialEq, Debug)]
 pub struct Director {
     pub state: State,
@@ -78,6 +85,11 @@ impl Director {
 
     pub fn slot(&self, slot: usize) -> [u32; 5] {
         self.row[slot * 5..slot * 5 + 5].try_into().unwrap()
+    }
+
+    /// The largest weight and the divisor that the state holds.
+    pub fn held(&self) -> (u16, u16) {
+        (self.state.largest_weight, self.state.weight_divisor)
     }
 
     pub fn counts(&self) -> Vec<u32> {

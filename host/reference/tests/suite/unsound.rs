@@ -21,7 +21,7 @@ fn picks_at(director: &mut Director) {
     }
 }
 
-fn assert_refuses(mut director: Director, what: &str) {
+pub fn assert_refuses(mut director: Director, what: &str) {
     let before = director.clone();
     let bytes = client_plan(director.state.service.protocol, 0, SYN).build();
     assert!(!director.sound(), "{what}");

@@ -1,7 +1,7 @@
 //! What a call may change, judged beside the book: state, row and packet before and after.
 
 use super::choose::Deed;
-use crate::support::Director;
+use crate::support::{largest_and_divisor, Director};
 use reference::data::UDP;
 use reference::packets;
 use reference::*;
@@ -12,6 +12,12 @@ pub fn effects(before: &Director, after: &Director, deed: &Deed, answer: Answer,
         let told = [6, 20].into_iter().find(|&number| answer == Answer::Refused(number));
         assert_eq!(told, header_refusal(packet));
     }
+    let held = match answer {
+        // a setup or a weight
+        Answer::Done => largest_and_divisor(&after.state),
+        _ => before.held(),
+    };
+    assert_eq!(after.held(), held);
     match (answer, deed) {
         (Answer::Refused(number), Deed::Inbound { clock, .. } | Deed::Outbound { clock, .. })
             if refusal::keeps_clock(number) =>
@@ -168,6 +174,7 @@ fn open(director: &mut Director, slot: usize, words: [u32; 5]) {
 fn weighed(before: &Director, after: &Director, number: usize, weight: u16) {
     let mut want = before.clone();
     want.state.servers[number].weight = weight;
+    (want.state.largest_weight, want.state.weight_divisor) = after.held();
     let changed = before.state.servers[number].weight != weight;
     if changed && before.state.service.scheduler == 2 {
         want.state.walk = Walk { place: -1, level: 0 };
@@ -176,7 +183,7 @@ fn weighed(before: &Director, after: &Director, number: usize, weight: u16) {
 }
 
 /// "Who is picked" once more, as literally as it is written.
-fn pick(state: &State) -> (usize, Walk) {
+pub fn pick(state: &State) -> (usize, Walk) {
     let servers = state.used_servers();
     match state.service.scheduler {
         1 => {
@@ -188,24 +195,23 @@ fn pick(state: &State) -> (usize, Walk) {
                 }
             }
         }
-        2 => weighted_walk(servers, state.walk),
+        2 => weighted_walk(state),
         3 => (lowest(servers, |s| (u64::from(s.count), 1)), state.walk),
         _ => (lowest(servers, |s| (u64::from(s.count), u64::from(s.weight))), state.walk),
     }
 }
 
-fn weighted_walk(servers: &[Server], walk: Walk) -> (usize, Walk) {
-    let weights: Vec<i64> = servers.iter().map(|s| i64::from(s.weight)).collect();
-    let largest = *weights.iter().max().unwrap();
-    // the greatest number that divides every weight, found by trying
-    let divisor = (1..=largest).rev().find(|d| weights.iter().all(|w| w % d == 0)).unwrap();
-    let (mut i, mut cw) = (walk.place, i64::from(walk.level));
+/// With both numbers worked out anew.
+fn weighted_walk(state: &State) -> (usize, Walk) {
+    let weights: Vec<i64> = state.weights().map(i64::from).collect();
+    let (largest, divisor) = largest_and_divisor(state);
+    let (mut i, mut cw) = (state.walk.place, i64::from(state.walk.level));
     loop {
         i = (i + 1) % weights.len() as i64;
         if i == 0 {
-            cw -= divisor;
+            cw -= i64::from(divisor);
             if cw <= 0 {
-                cw = largest;
+                cw = i64::from(largest);
             }
         }
         if weights[i as usize] >= cw {

@@ -9,6 +9,7 @@ mod wild;
 
 use crate::support::Director;
 use choose::{deed, good_setup};
+pub use judge::pick;
 use reference::book::{check, Book};
 use reference::*;
 pub use rng::Rng;

@@ -14,7 +14,7 @@ fn spoil(rng: &mut Rng, director: &mut Director) {
     let place = rng.below(66).min(63);
     let at = rng.below(director.row.len());
     let state = &mut director.state;
-    match rng.below(16) {
+    match rng.below(18) {
         0 => state.service.servers = word,
         1 => state.service.scheduler = word as u8,
         2 => state.service.protocol = rng.one_of(&[0, 6, 17, word as u8]),
@@ -28,6 +28,8 @@ fn spoil(rng: &mut Rng, director: &mut Director) {
         10 => state.clock = word,
         11 => director.row.truncate(at),
         12 => director.row[at] = word,
+        13 => state.largest_weight = word as u16,
+        14 => state.weight_divisor = word as u16,
         _ => double(rng, director),
     }
 }
@@ -50,6 +52,8 @@ fn junk(rng: &mut Rng) -> Director {
     state.service.servers = rng.next() as u32;
     state.service.protocol = rng.one_of(&[6, 17, 0]);
     state.walk.place = rng.next() as i64;
+    state.largest_weight = rng.next() as u16;
+    state.weight_divisor = rng.next() as u16;
     for server in &mut state.servers {
         server.address = rng.next() as u32;
         server.count = rng.next() as u32;
