@@ -1,7 +1,8 @@
 //! A director as bytes: what is written to the state file, and sent at a take-over.
 //!
 //! First a mark and the layout's number, last a checksum of all before it; both stay where they are in every layout. Numbers are
-//! written with the lowest byte first.
+//! written with the lowest byte first. The state's largest weight and divisor are in no layout: they follow from the weights, so
+//! who reads works them out, and programs with and without them hand directors to each other.
 
 use super::snapshot::Snapshot;
 use crate::clock::Clock;
@@ -89,7 +90,8 @@ const fn crc_table() -> [u32; 256] {
     table
 }
 
-/// It takes each struct apart, so that a new field doesn't compile before it has its place, and the layout a new number.
+/// It takes each struct apart, so that a new field doesn't compile before it has its place, and the layout a new number; or is
+/// left out because it follows from others.
 struct Writer(Vec<u8>);
 
 impl Writer {
@@ -110,7 +112,16 @@ impl Writer {
     }
 
     fn state(&mut self, state: &State) {
-        let State { service, clock, servers: places, place, level } = *state;
+        let State {
+            service,
+            clock,
+            servers: places,
+            place,
+            level,
+            // not written: these two follow from the weights
+            largest_weight: _,
+            weight_divisor: _,
+        } = *state;
         let Service { address, port, protocol, scheduler, servers } = service;
         self.u32(address);
         self.u16(port);
@@ -189,7 +200,10 @@ impl Reader<'_> {
             let (address, port, weight) = (self.u32()?, self.u16()?, self.u16()?);
             *server = Server { address, port, weight, count: self.u32()? };
         }
-        Some(State { service, clock, servers, place: self.u64()?, level: self.u16()? })
+        let (place, level) = (self.u64()?, self.u16()?);
+        let (largest_weight, weight_divisor) = (0, 0);
+        let read = State { service, clock, servers, place, level, largest_weight, weight_divisor };
+        Some(read.with_largest_weight_and_divisor())
     }
 
     fn counters(&mut self, a_way: usize) -> Option<Counters> {

@@ -3,53 +3,15 @@
 use crate::damage::damaged;
 use crate::handover::{read_line, request, Place};
 use crate::layouts::{layout_1_of, numbered, with_right_checksum, AFTER, IN_LAYOUT_1};
+use crate::recorded::LAYOUT_1;
 use crate::support::*;
-use live::control::metrics;
 use live::counters::{CHANGES, WAYS};
 use live::handover::layout::{bytes_of, read};
 use live::handover::request::Request;
-use live::handover::snapshot::{this_boot, Resumed};
 use live::handover::take::Taken;
 use nidhaaguf::Refusal;
 use random::Rng;
 use std::io::{ErrorKind, Write};
-use std::time::Duration;
-
-/// The state file that a program of layout 1 saved, as `xxd -p` prints it, and the metrics that it told last.
-const RECORDED: &str = include_str!("layout_1.hex");
-const METRICS: &str = include_str!("layout_1.metrics");
-
-fn recorded() -> Vec<u8> {
-    let byte = |digits: &[u8]| u8::from_str_radix(str::from_utf8(digits).unwrap(), 16).unwrap();
-    RECORDED.lines().flat_map(|line| line.as_bytes().chunks(2).map(byte)).collect()
-}
-
-/// What metrics tell, without the words of the reasons.
-fn samples(text: &str) -> Vec<(&str, &str)> {
-    let samples = text.lines().filter(|line| !line.starts_with('#'));
-    let parts = samples.map(|line| line.rsplit_once(' ').unwrap());
-    parts.map(|(name, value)| (name.split(",reason=").next().unwrap(), value)).collect()
-}
-
-/// All that was told is told on; 20 is new, and begins at 0.
-#[test]
-fn a_recorded_director_goes_on() {
-    let mut snapshot = read(&recorded()).unwrap();
-    assert_eq!(layout_1_of(&snapshot), recorded());
-    snapshot.boot = this_boot();
-    let now = Duration::from_secs(snapshot.state.clock.into());
-    let resumed = snapshot.resume(&small_config(), 1, now).unwrap();
-    let Resumed { mut instance, forgotten: None, .. } = resumed else { panic!("{resumed:?}") };
-    let text = metrics::text(&instance);
-    let (new, known): (Vec<_>, Vec<_>) =
-        samples(&text).into_iter().partition(|(name, _)| name.ends_with("number=\"20\""));
-    assert_eq!(known, samples(METRICS));
-    assert_eq!(new.iter().map(|(_, value)| *value).collect::<Vec<_>>(), ["0", "0"]);
-    // a connection of before is kept
-    let used = instance.director().used();
-    pass(&mut instance, &syn(1)).unwrap();
-    assert_eq!(instance.director().used(), used);
-}
 
 /// Each number in the place that the library's header of before gave it.
 #[test]
@@ -87,7 +49,7 @@ fn what_is_read_is_written_in_the_own_layout() {
 
 #[test]
 fn cut_and_damaged_ones_are_refused() {
-    let bytes = recorded();
+    let bytes = LAYOUT_1.bytes();
     for length in 0..bytes.len() {
         assert!(read(&bytes[..length]).is_err(), "{length}");
         if length > 20 {

@@ -37,7 +37,47 @@ fn bytes_and_back() {
     }
 }
 
-/// Two directors that differ in one field have different bytes: so each field is written.
+/// A director with connections of that scheduler, and with these weights, which were set.
+fn weighted_snapshot(scheduler: u8, weights: [u16; 3]) -> Snapshot {
+    let servers: String =
+        (5..8).map(|number| format!("server 10.1.0.{number}:6432 weight 5\n")).collect();
+    let mut instance = instance_of(&format!(
+        "service 192.0.2.10:5432 tcp\nscheduler {scheduler}\n{servers}slots 9\n"
+    ));
+    for (number, weight) in weights.into_iter().enumerate() {
+        pass(&mut instance, &syn(1 + number as u16)).unwrap();
+        instance.set_weight(number, weight).unwrap();
+    }
+    (4..=7).for_each(|port| drop(pass(&mut instance, &syn(port))));
+    Snapshot::of(&instance, &quiet_log())
+}
+
+/// They are there again, whatever they are in what is written.
+fn must_be_worked_out(snapshot: &Snapshot, numbers: (u16, u16)) {
+    assert_eq!((snapshot.state.largest_weight, snapshot.state.weight_divisor), numbers);
+    assert_eq!(read(&bytes_of(snapshot)).as_ref(), Ok(snapshot));
+    let mut other = snapshot.clone();
+    (other.state.largest_weight, other.state.weight_divisor) = (5, 5);
+    assert_eq!(bytes_of(&other), bytes_of(snapshot));
+}
+
+/// What follows from the weights isn't written, whatever the scheduler.
+#[test]
+fn largest_weight_and_divisor_are_worked_out() {
+    for (weights, numbers) in [
+        ([0, 0, 0], (0, 0)),
+        ([6, 4, 0], (6, 2)),
+        ([0, 7, 0], (7, 7)),
+        ([6, 9, 15], (15, 3)),
+        ([28_657, 46_368, 0], (46_368, 1)),
+        ([65_535, 0, 65_535], (65_535, 65_535)),
+    ] {
+        let snapshots = (1..=4).map(|scheduler| weighted_snapshot(scheduler, weights));
+        snapshots.for_each(|snapshot| must_be_worked_out(&snapshot, numbers));
+    }
+}
+
+/// Two directors that differ in one other field have different bytes: so each of these is written.
 #[test]
 fn every_field_is_in_the_bytes() {
     let snapshot = small_snapshot();

@@ -14,6 +14,7 @@ mod layouts;
 mod log;
 mod packet_thread;
 mod packets;
+mod recorded;
 mod reload;
 mod request;
 mod signals;

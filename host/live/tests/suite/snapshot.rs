@@ -4,6 +4,7 @@ use crate::support::*;
 use live::config::Config;
 use live::control::{metrics, status};
 use live::handover::snapshot::{this_boot, Snapshot};
+use nidhaaguf::raw::State;
 use std::time::Duration;
 
 /// Why a director doesn't go on.
@@ -99,10 +100,19 @@ fn a_clock_that_is_ahead_is_told() {
 
 #[test]
 fn what_the_library_refuses_is_told() {
-    let mut snapshot = small_snapshot();
-    snapshot.state.servers[0].count += 1;
-    let words = complaint(snapshot, &small_config());
-    assert!(words.starts_with("the library refuses it: ") && words.ends_with(" (15)"), "{words}");
+    let changes: [fn(&mut State); 5] = [
+        |state| state.servers[0].count += 1,
+        |state| state.servers[1].port = 0,
+        |state| state.place += 1,
+        |state| state.largest_weight += 1,
+        |state| state.weight_divisor += 1,
+    ];
+    for change in changes {
+        let mut snapshot = small_snapshot();
+        change(&mut snapshot.state);
+        let words = complaint(snapshot, &small_config());
+        assert_eq!(words, "the library refuses it: state and row don't fit together (15)");
+    }
 }
 
 /// Counts that could not be added to, and what was told of more than there was.
