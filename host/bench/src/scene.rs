@@ -47,6 +47,7 @@ pub struct Plan {
     /// Whether the packets are of the client in the first slot, and not of the one in the last that is used.
     pub first: bool,
     pub scheduler: u8,
+    pub weights: Weights,
 }
 
 /// State, row and packet, in the library's layout and in the second implementation's.
@@ -77,7 +78,7 @@ impl Scene {
         let mut state = raw::State { service, clock: CLOCK, place, ..raw::State::default() };
         for (number, server) in state.servers[..servers].iter_mut().enumerate() {
             let (address, port) = server_end(number);
-            *server = raw::Server { address, port, weight: 1, count: 0 };
+            *server = raw::Server { address, port, weight: plan.weights.weight(number), count: 0 };
         }
         let mut row = vec![0; plan.slots * raw::WORDS_PER_SLOT];
         for slot in 0..plan.used() {
@@ -87,8 +88,12 @@ impl Scene {
             row[5 * slot..5 * slot + 5].copy_from_slice(&words);
             state.servers[server].count += 1;
         }
-        let fresh = packet_of(call, &plan, 0);
-        Scene { call, plan, twin: twin_of(&state), state, row, packet: fresh.clone(), fresh }
+        let state = state.with_largest_weight_and_divisor();
+        let (twin, fresh) = (twin_of(&state), packet_of(call, &plan, 0));
+        // else refusals would be measured
+        assert_eq!(raw::count(state, &row, 0).refusal, 0, "the state is not sound");
+        assert!(reference::is_sound(&twin, &row), "the second implementation's is not sound");
+        Scene { call, plan, state, twin, row, packet: fresh.clone(), fresh }
     }
 
     /// As it was, for another call.
@@ -176,6 +181,24 @@ impl Clients {
     }
 }
 
+/// How the servers are weighted.
+#[derive(Clone, Copy)]
+pub enum Weights {
+    /// All alike.
+    Equal,
+    /// Two in turn with which Euclid's algorithm takes its most steps: the last neighbours of Fibonacci's below 65,536.
+    Worst,
+}
+
+impl Weights {
+    fn weight(self, server: usize) -> u16 {
+        match self {
+            Weights::Equal => 1,
+            Weights::Worst => [46_368, 28_657][server % 2],
+        }
+    }
+}
+
 fn twin_of(state: &raw::State) -> reference::State {
     let mut twin = reference::State::new();
     let service = state.service;
@@ -196,5 +219,6 @@ fn twin_of(state: &raw::State) -> reference::State {
     }
     twin.walk = reference::Walk { place: state.place as i64 - 1, level: state.level };
     twin.clock = state.clock;
+    reference::weights::make_true(&mut twin);
     twin
 }
