@@ -1,6 +1,6 @@
 -- The laws of specs/Laws.antt: over every set of flags and every refusal; the tables by computation. Those of the order are proved beside the
 -- calls that they are about, those of the weights in Weights.antt. Assumes nothing.
-use Prim.Native.Nat.{ℕ, _-_}
+use Prim.Native.Nat.{ℕ}
 use mathlib.Core.Bool.{Bool, true, false, and-false, false≢true}
 use mathlib.Core.Path.{_≡_, refl}
 use borrow.Author.Tests.{eqb-true}
@@ -13,7 +13,6 @@ use Rattle.packet.specs.declared.read.Flags.{Flags}
 use Rattle.director.specs.declared.state.Refusal.{Refusal}
 use Rattle.director.specs.declared.segment.Sender.{Sender}
 use Rattle.director.specs.declared.segment.Segment.{Segment}
-use Rattle.director.specs.State.{refusalNumber}
 use Rattle.director.specs.Decide.{isSyn, opens, renews}
 use Rattle.director.specs.Laws.{synAlone, refusals, Laws}
 use Rattle.director.proofs.Keeping.{unsound-first}

@@ -84,8 +84,8 @@ sound-parts d row e =
     let table = tableSound (d .service .protocol) n (d .clock) row (d .servers) in
     let (settings, parts) = both (isAccepted (settingsJudged (d .service) (d .servers) row)) (unused && weights && range && table) e in
     let (front, last) = both (unused && weights && range) table parts in
-    let (pair, third) = both (unused && weights) range front in
-    let (first, second) = both unused weights pair in
+    let (held, third) = both (unused && weights) range front in
+    let (first, second) = both unused weights held in
     record {
       settings = accepted (d .service) (d .servers) row settings;
       unused = first;

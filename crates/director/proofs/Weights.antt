@@ -19,7 +19,7 @@ use Rattle.director.specs.Carry.{carriedOut}
 use Rattle.director.specs.Tick.{settled, settledLent, tickOnClock, tickOnSound, tickOf}
 use Rattle.director.specs.Packets.{routed, onClock, onSeen, packetHeld, packetOnSound, packetOf}
 use Rattle.director.specs.Laws.{withWeights, WeightsTrue, WeightsJudged, WeightsLeft}
-use Rattle.director.proofs.Sound.{Sound, sound-parts, sound-whole}
+use Rattle.director.proofs.Sound.{Sound, sound-parts}
 
 pub weights-true : WeightsTrue
 weights-true d row sound = let e = sound-parts d row sound .weights in (e, rw e refl)
