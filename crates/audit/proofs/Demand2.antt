@@ -21,6 +21,7 @@ use Rattle.servers.specs.Servers.{serverAt, lowered}
 use Rattle.servers.proofs.Ends.{SameEnds, ends-chain}
 use Rattle.servers.proofs.Kept.{ends-set}
 use Rattle.scheduler.specs.declared.walk.Walk.{Walk}
+use Rattle.scheduler.specs.Laws.{Published}
 use Rattle.table.specs.declared.slot.Slot.{Slot}
 use Rattle.table.specs.declared.slot.SlotNo.{SlotNo}
 use Rattle.table.specs.Slots.{slots, words, slotAt}
@@ -54,9 +55,8 @@ use Rattle.director.proofs.Decisions.{Its, Opening, Grounded, decided-grounded}
 use Rattle.director.proofs.Carried.{its-slot}
 use Rattle.audit.specs.Calls.{EndsFit}
 use Rattle.audit.specs.Claim.{isOpened}
-use Rattle.audit.specs.Demand2.{ResultClaim, Rewritten, Alike, Published, seenByPick, Demand2}
+use Rattle.audit.specs.Demand2.{ResultClaim, Rewritten, Alike, seenByPick, Demand2}
 use Rattle.audit.proofs.Agreement.{ends-lowered}
-use Rattle.audit.proofs.Published.{published}
 use Rattle.audit.proofs.Rewriting.{rewritten}
 
 -- 1. Bytes past the total length
@@ -140,12 +140,6 @@ same-change i j x y e = cc
 one-segment : (m m′ : Segment) → Seen.Segment m ≡ Seen.Segment m′ → m ≡ m′
 one-segment m m′ e = cc
 
--- an opening in a sound state goes to whom the published scheduler picks
-picked-right : (d : Director) (row : List ℕ) → Sound d row → (k : ℕ) (i : ServerNo) (walk : Walk) → Opening d (slots row) k (i .0) walk
-    → Published (d .service .scheduler) (d .servers) (d .service .servers) (d .walk) i walk
-picked-right d row sound k i walk new =
-    published (d .service .scheduler) (d .servers) (d .service .servers) (d .walk) i walk (sound .settings .some) (sound .range) (rw (sound .weights) at (new .picked))
-
 module _ (way : Way) (d : Director) (row p : List ℕ) (now : ℕ) (fits : EndsFit (d .service) (d .servers)) (bytes : Bytes p) where
   abbrev Goal : Result → Type 0
   Goal = ResultClaim way d row p now
@@ -208,21 +202,18 @@ module _ (way : Way) (d : Director) (row p : List ℕ) (now : ℕ) (fits : EndsF
       by-decision (Decision.End k) its =
           its-right k true its Change.Ended refl _ _ (ends-set (present .servers) (slotAt row′ (k .0) .server .0) _ n refl refl)
       by-decision (Decision.Open k i walk) new =
-          passed-right i Change.Opened _ walk _ (new .opening .server)
+          passed-right i Change.Opened _ walk _ (new .opening .picked .serves .server)
           (ends-chain n _ (present .servers) (d .servers) (ends-set (present .servers) (i .0) _ n refl refl) ends)
           (λ e. absurd (true≢false e))
-          (λ _. rw (← rest, new .absent) (picked-right present row′ whole (k .0) i walk (new .opening)))
+          (λ _. rw (← rest, new .absent) (new .opening .picked .published))
       by-decision (Decision.Renew old k i walk) new =
           let s = slotAt row′ (old .0) in
           let found = lowest-found (ofClient (m .address) (m .port)) (slots row′) (old .0) (new .its .lowest) in
-          let l = freed (slots row′) (old .0) in
-          let whole′ = ended-parts present row′ whole (old .0) (new .its .lowest .within) (new .its .used) in
-          passed-right i Change.Opened _ walk _ (new .opening .server)
+          passed-right i Change.Opened _ walk _ (new .opening .picked .serves .server)
           (ends-chain n _ (lowered (present .servers) (s .server .0)) (d .servers) (ends-set (lowered (present .servers) (s .server .0)) (i .0) _ n refl refl)
           (ends-chain n _ (present .servers) (d .servers) (ends-set (present .servers) (s .server .0) _ n refl refl) ends))
           (λ e. absurd (true≢false e))
-          (λ _. rw (← rest, found, new .renews)
-          (picked-right (withOneLess present (s .server .0)) (words l) whole′ (k .0) i walk (rw (slots-words l) (new .opening))))
+          (λ _. rw (← rest, found, new .renews) (new .opening .picked .published))
 
     by-clock : (e : Bool) → ltb now (d .clock) ≡ e → Goal (inWords (onClock d (lent (slots row) p) m now e))
     unfolding routed

@@ -1,9 +1,9 @@
 -- Each call gives the number of the lowest-placed of its tests that fails, and 0 where none does. Assumes nothing.
-use Prim.Native.Nat.{ℕ, _-_, _<_}
+use Prim.Native.Nat.{ℕ, _<_}
 use mathlib.Core.Bool.{Bool, true, false, cond, not, _&&_, _||_}
 use mathlib.Core.List.{List, []}
 use mathlib.Core.Logic.{⊎-elim}
-use mathlib.Core.Path.{_≡_, refl, _∙_}
+use mathlib.Core.Path.{_≡_, refl, ap, _∙_}
 use borrow.Author.Tests.{ltb-false}
 use lib.Dec.{eqb, ltb}
 use lib.ListN.{length, getD}
@@ -20,14 +20,9 @@ use Rattle.servers.specs.declared.Server.{Server}
 use Rattle.servers.specs.declared.ServerNo.{ServerNo}
 use Rattle.servers.specs.declared.Found.{Found}
 use Rattle.servers.specs.declared.rules.Rule.{Rule}
-use Rattle.servers.specs.Servers.{countAt}
 use Rattle.servers.specs.Rules.{allKeep, isNobody, numberOf}
-use Rattle.scheduler.specs.declared.walk.Picked.{Picked}
 use Rattle.scheduler.specs.declared.walk.Walk.{Walk}
-use Rattle.scheduler.specs.Weights.{noWeight}
-use Rattle.scheduler.specs.Laws.{isNobody as nobodyPicked}
-use Rattle.scheduler.proofs.Picks.{pick-nobody}
-use Rattle.scheduler.proofs.Ranges.{count-in-range}
+use Rattle.scheduler.specs.Weights.{noneWeighs, noWeight}
 use Rattle.table.specs.declared.slot.Slot.{Slot}
 use Rattle.table.specs.declared.slot.SlotNo.{SlotNo}
 use Rattle.table.specs.declared.find.Found.{Found as FoundSlot}
@@ -52,14 +47,13 @@ use Rattle.director.specs.Setup.{onVerdict, setupOf}
 use Rattle.director.specs.Control.{numberJudged, onWeight, weightOf, onCount, countCallOf}
 use Rattle.director.specs.Tick.{settled, settledSlots, tickOnSound, tickOf}
 use Rattle.director.specs.Segment.{inboundSegment, onNumber, onWay, onReading, segmentRead}
-use Rattle.director.specs.Decide.{opens, belongs, nextPick, onPick, onRoom, renews, onRenewal, onRst, onPresent, onClient, decided}
+use Rattle.director.specs.Decide.{opens, belongs, nextPick, onWeights, onRoom, renews, onRenewal, onRst, onPresent, onClient, decided}
 use Rattle.director.specs.Carry.{carriedOut}
 use Rattle.director.specs.Packets.{routed, onClock, onSeen, packetHeld, packetOf}
 use Rattle.director.specs.Laws.{isIts}
 use Rattle.director.proofs.Sound.{Sound, sound-parts}
-use Rattle.director.proofs.Ending.{ended-parts}
 use Rattle.director.proofs.Settled.{settled-sound}
-use Rattle.director.proofs.Decisions.{others-open-none, renewing, scheduler-known}
+use Rattle.director.proofs.Decisions.{others-open-none}
 use Rattle.audit.specs.Calls.{Call, setUp, setWeight, count, tick, packet, State, called}
 use Rattle.audit.specs.Demand1.{lowestFailing, setupTests, numberTests, tickTests, transportMalformed, isElsewhere, isPresent, isRenewal, routeTests, seenTests, packetTests, tests, numberGiven}
 
@@ -129,17 +123,16 @@ carried-number d x m (Decision.End k) = refl
 carried-number d x m (Decision.Open k i walk) = refl
 carried-number d x m (Decision.Renew old k i walk) = refl
 
--- nobody is picked exactly where every weight is 0
-nobody : (d : Director) (row : List ℕ) → Sound d row → nobodyPicked (nextPick d) ≡ noWeight (d .servers) (d .service .servers)
-nobody d row sound =
-    rw (sound .weights)
-    (pick-nobody (d .service .scheduler) (d .servers) (d .service .servers) (d .walk) (scheduler-known (d .service) (sound .settings .right)) (sound .range))
-
-on-pick : (make : ServerNo → Walk → Decision) → ((i : ServerNo) (walk : Walk) → decisionNumber (make i walk) ≡ 0)
-    → (p : Picked) → decisionNumber (onPick make p) ≡ cond (nobodyPicked p) 14 0
+-- 14 where the largest weight that is held is 0
+on-weights : (d : Director) (make : ServerNo → Walk → Decision) → ((i : ServerNo) (walk : Walk) → decisionNumber (make i walk) ≡ 0)
+    → decisionNumber (onWeights d make) ≡ cond (noneWeighs (d .weights)) 14 0
 unfolding decisionNumber
-on-pick make accepted Picked.Nobody = refl
-on-pick make accepted (Picked.Server i walk) = accepted i walk
+on-weights d make accepted = by-none (noneWeighs (d .weights))
+  where
+    by-none : (none : Bool)
+        → decisionNumber (cond none (Decision.Refuse Refusal.NoWeight) (make (nextPick d .server) (nextPick d .walk))) ≡ cond none 14 0
+    by-none true = refl
+    by-none false = accepted (nextPick d .server) (nextPick d .walk)
 
 module _ (d : Director) (row : List ℕ) (sound : Sound d row) (m : Segment) where
   abbrev l : List Slot
@@ -150,6 +143,10 @@ module _ (d : Director) (row : List ℕ) (sound : Sound d row) (m : Segment) whe
 
   abbrev none : Bool
   none = noWeight (d .servers) (d .service .servers)
+
+  -- the largest weight that is held is 0 exactly where every weight is
+  held-none : noneWeighs (d .weights) ≡ none
+  held-none = ap noneWeighs (sound .weights)
 
   -- what 12 to 14 say, of the client's connection and the lowest free slot
   abbrev routeNumber : FoundSlot → FoundSlot → ℕ
@@ -169,28 +166,23 @@ module _ (d : Director) (row : List ℕ) (sound : Sound d row) (m : Segment) whe
     within : k .0 < length l
     within = found-lowest (ofClient (m .address) (m .port)) l (k .0) found .within
 
-    -- a slot is free then, and the weights are the same
-    by-free : renews m (s .phase) ≡ true → (f : FoundSlot) → firstFrom isUnused 0 (freed l (k .0)) ≡ f
-        → decisionNumber (onRoom ended (Decision.Renew k) f) ≡ cond none 14 0
+    -- a slot is free then
+    by-free : (f : FoundSlot) → firstFrom isUnused 0 (freed l (k .0)) ≡ f → decisionNumber (onRoom ended (Decision.Renew k) f) ≡ cond none 14 0
     unfolding decisionNumber
-    by-free renewed FoundSlot.Nothing e = absurd (freed-found l (k .0) within e)
-    by-free renewed (FoundSlot.At j) e =
-        let used : isUnused s ≡ false = rw (renewing 6 m (s .phase) renewed .0) in
-        let same = count-in-range (d .servers) (d .service .servers) (s .server .0) (countAt (d .servers) (s .server .0) - 1) .0 in
-        on-pick (Decision.Renew k j) (λ i walk. refl) (nextPick ended)
-        ∙ rw (nobody ended (words (freed l (k .0))) (ended-parts d row sound (k .0) within used), same)
+    by-free FoundSlot.Nothing e = absurd (freed-found l (k .0) within e)
+    by-free (FoundSlot.At j) e = on-weights ended (Decision.Renew k j) (λ i walk. refl) ∙ rw held-none
 
     on-present : (free : FoundSlot) → decisionNumber (onPresent d l m k s) ≡ routeNumber (FoundSlot.At k) free
     unfolding decisionNumber
-    on-present free = by-tests (belongs (m .sender) (s .server)) refl (renews m (s .phase)) refl (m .flags .rst)
+    on-present free = by-tests (belongs (m .sender) (s .server)) refl (renews m (s .phase)) (m .flags .rst)
       where
-        by-tests : (here : Bool) → belongs (m .sender) (s .server) ≡ here → (renewed : Bool) → renews m (s .phase) ≡ renewed → (rst : Bool)
+        by-tests : (here : Bool) → belongs (m .sender) (s .server) ≡ here → (renewed rst : Bool)
             → decisionNumber (cond here (cond renewed (onRenewal d l k) (onRst k rst)) (Decision.Refuse Refusal.NoConnection))
             ≡ cond (not here && not new) 12 (cond (renewed && none) 14 0)
-        by-tests true e true r rst = by-free r (firstFrom isUnused 0 (freed l (k .0))) refl
-        by-tests true e false r true = refl
-        by-tests true e false r false = refl
-        by-tests false e renewed r rst = rw (others-open-none (d .service .protocol) (m .flags) (m .sender) (s .server) e)
+        by-tests true e true rst = by-free (firstFrom isUnused 0 (freed l (k .0))) refl
+        by-tests true e false true = refl
+        by-tests true e false false = refl
+        by-tests false e renewed rst = rw (others-open-none (d .service .protocol) (m .flags) (m .sender) (s .server) e)
 
   on-absent : (opening : Bool) (free : FoundSlot)
       → decisionNumber (cond opening (onRoom d Decision.Open free) (Decision.Refuse Refusal.NoConnection))
@@ -198,7 +190,7 @@ module _ (d : Director) (row : List ℕ) (sound : Sound d row) (m : Segment) whe
   unfolding decisionNumber
   on-absent false free = refl
   on-absent true FoundSlot.Nothing = refl
-  on-absent true (FoundSlot.At k) = on-pick (Decision.Open k) (λ i walk. refl) (nextPick d) ∙ rw (nobody d row sound)
+  on-absent true (FoundSlot.At k) = on-weights d (Decision.Open k) (λ i walk. refl) ∙ rw held-none
 
   by-client : (client : FoundSlot) → firstFrom (ofClient (m .address) (m .port)) 0 l ≡ client
       → decisionNumber (onClient d l m client) ≡ routeNumber client (firstFrom isUnused 0 l)

@@ -17,8 +17,8 @@ use Rattle.director.specs.Tick.{tickOf}
 use Rattle.director.specs.Segment.{segmentRead}
 use Rattle.director.specs.Decide.{decided}
 use Rattle.director.specs.Packets.{routed, packetHeld, packetOf}
-use Rattle.audit.specs.Examples.{Examples}
+use Rattle.audit.specs.Examples.{picks, Examples}
 
 pub examples : Examples
-unfolding foldBelow allBelow countOf allOf edited broken fragment tcpMalformed readPacket headerEdited sumWritten transportEdited redirected ringFrom euclid gcdOf slots words firstFrom cleared loweredBy countsAre settingsJudged partsSound soundOf numberJudged weightOf tickOf segmentRead decided routed packetHeld packetOf
+unfolding picks foldBelow allBelow countOf allOf edited broken fragment tcpMalformed readPacket headerEdited sumWritten transportEdited redirected ringFrom euclid gcdOf slots words firstFrom cleared loweredBy countsAre settingsJudged partsSound soundOf numberJudged weightOf tickOf segmentRead decided routed packetHeld packetOf
 examples = refl

@@ -10,7 +10,6 @@ pub mod Demand3
 pub mod Many
 pub mod Exactly
 pub mod Demand1
-pub mod Published
 pub mod Rewriting
 pub mod Demand2
 pub mod Refusals

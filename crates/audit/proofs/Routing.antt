@@ -212,13 +212,13 @@ module _ (d : Director) (row : List ℕ) (given : List Server) (es : List Entry)
   by-decision (Decision.Open k i walk) new =
       opened-right i _ walk _ _
       (matches-opened d l given es t m (k .0) (i .0) walk (new .opening .lowest .within) (new .opening .lowest .passes) (new .absent))
-      (none-struck (new .absent)) (new .opens) (new .opening .server)
+      (none-struck (new .absent)) (new .opens) (new .opening .picked .serves .server)
   by-decision (Decision.Renew old k i walk) new =
       let low = new .its .lowest in
       opened-right i _ walk _ _
       (matches-renewed d l given es t m (old .0) (low .within) (low .passes) (slotAt row (old .0) .server .0) (k .0) (i .0) walk
       (new .opening .lowest .within) (new .opening .lowest .passes))
-      (its-struck (old .0) (low .within) (low .passes) (new .renews)) (renewing protocol m (slotAt row (old .0) .phase) (new .renews) .1) (new .opening .server)
+      (its-struck (old .0) (low .within) (low .passes) (new .renews)) (renewing protocol m (slotAt row (old .0) .phase) (new .renews) .1) (new .opening .picked .serves .server)
 
   pub routed-right : Routed way b p m (routed d (lent l p) m)
   unfolding routed

@@ -14,13 +14,7 @@ use Rattle.packet.specs.Laws.{VerifiesExactly, LeavesFresh, Kept, SameUpToTotal
 use Rattle.servers.specs.declared.Server.{Server}
 use Rattle.servers.specs.declared.ServerNo.{ServerNo}
 use Rattle.servers.specs.Servers.{serverAt, lowered}
-use Rattle.scheduler.specs.declared.least_loaded.Load.{Load}
-use Rattle.scheduler.specs.declared.walk.Place.{Place}
-use Rattle.scheduler.specs.declared.walk.Walk.{Walk}
-use Rattle.scheduler.specs.Weights.{weightsGcd, largestOf}
-use Rattle.scheduler.specs.WeightedRoundRobin.{levelAt, reaches}
-use Rattle.scheduler.specs.Ring.{nextOf}
-use Rattle.scheduler.specs.Laws.{IsNext, IsFirst, IsLeast}
+use Rattle.scheduler.specs.Laws.{Published}
 use Rattle.table.specs.declared.slot.Slot.{Slot}
 use Rattle.table.specs.declared.find.Found.{Found}
 use Rattle.table.specs.Slots.{slots, freeSlot}
@@ -75,17 +69,6 @@ pub record Alike (total : ℕ) (r r′ : Result) : Type 0 where
   pub packet : take total (r′ .lent .packet) ≡ take total (r .lent .packet)
 
 -- 2. Picking
-
--- server i is whom scheduler k picks among the first n servers s, from the walk w to the walk w′
-pub record Published (k : ℕ) (s : List Server) (n : ℕ) (w : Walk) (i : ServerNo) (w′ : Walk) : Type 0 where
-  -- round-robin: "picked is the next number in the ring with weight above 0" (SCOPE 10.3), after the last pick
-  pub scheduler1 : k ≡ 1 → (last : ServerNo) → w .place ≡ Place.At last → IsNext s n (last .0) (i .0)
-  -- weighted round-robin: "The first server with weight at least cw is picked." (SCOPE 10.5)
-  pub scheduler2 : k ≡ 2 → IsFirst (levelAt (weightsGcd s n) (largestOf s n)) (reaches s) n n (nextOf n (w .place)) (w .level) i w′
-  -- least-connection: "the smallest count among weights above 0; ties to the lowest number" (SCOPE 10.8)
-  pub scheduler3 : k ≡ 3 → IsLeast Load.Count s n (i .0)
-  -- weighted least-connection: "the smallest count/weight among weights above 0, compared by cross products; ties to the lowest number" (SCOPE 10.9)
-  pub scheduler4 : k ≡ 4 → IsLeast Load.PerWeight s n (i .0)
 
 -- the answer tells of an opening
 abbrev pub opens : Answer → Bool

@@ -7,7 +7,6 @@ use Rattle.packet.specs.Redirect.{sumWritten}
 use Rattle.servers.specs.declared.Server.{Server}
 use Rattle.scheduler.specs.declared.walk.Place.{Place}
 use Rattle.scheduler.specs.declared.walk.Walk.{Walk}
-use Rattle.scheduler.specs.declared.walk.Picked.{Picked}
 use Rattle.scheduler.specs.Weights.{weightsOf}
 use Rattle.scheduler.specs.ByNumber.{startOf, pickOf}
 use Rattle.director.specs.declared.state.Director.{Director}
@@ -23,15 +22,10 @@ use Rattle.audit.specs.Samples.{serverOf, serviceOf, twoServers, stateOf
 abbrev pub server : (port weight count : ℕ) → Server
 server port weight count = serverOf 0x0A010005 port weight count
 
--- the server picked, and what follows from the walk after it; nothing where nobody is
-abbrev pub follow : Picked → (Walk → List ℕ) → List ℕ
-follow (Picked.Server i w) rest = i .0 ∷ rest w
-follow Picked.Nobody rest = []
-
 -- the servers picked by m openings in a row, from a walk on
-abbrev pub picks : ℕ → List Server → ℕ → Walk → List ℕ
+unfoldable pub picks : ℕ → List Server → ℕ → Walk → List ℕ
 picks k s zero w = []
-picks k s (suc m) w = follow (pickOf k s (length s) (weightsOf s (length s)) w) (picks k s m)
+picks k s (suc m) w = let p = pickOf k s (length s) (weightsOf s (length s)) w in p .server .0 ∷ picks k s m (p .walk)
 
 -- the same from the walk's start
 abbrev pub picksOf : ℕ → List Server → ℕ → List ℕ

@@ -52,8 +52,8 @@ opened-sound : (d : Director) (row : List ℕ) (m : Segment) → Sound d row →
     → soundOf (withServers d (raised (d .servers) i) walk) (words (opened (slots row) k (m .address) (m .port) i (d .clock))) ≡ true
 opened-sound d row m sound port k i walk new =
     let n = d .service .servers in
-    recounted-sound d row sound (raised (d .servers) i) walk (d .clock) _ (recounted n (d .servers) i _ (new .server)) (new .range)
-    (opened-table (d .service .protocol) n (d .clock) row (d .servers) (sound .table) k (m .address) (m .port) i (new .lowest .within) (new .lowest .passes) port (new .server))
+    recounted-sound d row sound (raised (d .servers) i) walk (d .clock) _ (recounted n (d .servers) i _ (new .picked .serves .server)) (new .picked .serves .range)
+    (opened-table (d .service .protocol) n (d .clock) row (d .servers) (sound .table) k (m .address) (m .port) i (new .lowest .within) (new .lowest .passes) port (new .picked .serves .server))
 
 module _ (d : Director) (row p : List ℕ) (m : Segment) (sound : Sound d row) where
   abbrev protocol : ℕ

@@ -11,9 +11,10 @@ use Rattle.lists.proofs.Cases.{both, by-test}
 use Rattle.packet.specs.declared.read.Flags.{Flags}
 use Rattle.servers.specs.declared.ServerNo.{ServerNo}
 use Rattle.scheduler.specs.declared.walk.Walk.{Walk}
-use Rattle.scheduler.specs.declared.walk.Picked.{Picked}
-use Rattle.scheduler.specs.ByNumber.{isScheduler, inRange}
-use Rattle.scheduler.specs.Laws.{PickFound}
+use Rattle.scheduler.specs.declared.walk.Pick.{Pick}
+use Rattle.scheduler.specs.Weights.{noneWeighs}
+use Rattle.scheduler.specs.Laws.{SomeWeight, IsPick}
+use Rattle.scheduler.proofs.Largest.{no-weight}
 use Rattle.scheduler.proofs.Picks.{pick-found}
 use Rattle.table.specs.declared.slot.Slot.{Slot}
 use Rattle.table.specs.declared.slot.SlotNo.{SlotNo}
@@ -24,15 +25,13 @@ use Rattle.table.specs.Changes.{freed}
 use Rattle.table.proofs.Rows.{slots-words}
 use Rattle.table.proofs.Finding.{found-lowest}
 use Rattle.table.proofs.Freeing.{freed-found}
-use Rattle.director.specs.declared.state.Service.{Service}
 use Rattle.director.specs.declared.state.Director.{Director}
 use Rattle.director.specs.declared.state.Refusal.{Refusal}
 use Rattle.director.specs.declared.segment.Sender.{Sender}
 use Rattle.director.specs.declared.segment.Segment.{Segment}
 use Rattle.director.specs.declared.decide.Decision.{Decision}
 use Rattle.director.specs.State.{refusalNumber, keepsClock, withOneLess}
-use Rattle.director.specs.Judge.{isProtocol, serviceRight}
-use Rattle.director.specs.Decide.{opensBy, opens, belongs, nextPick, onPick, onRoom, onAbsent, renews, onRenewal, onRst, onPresent, onClient, decided}
+use Rattle.director.specs.Decide.{opensBy, opens, belongs, nextPick, onWeights, onRoom, onAbsent, renews, onRenewal, onRst, onPresent, onClient, decided}
 use Rattle.director.specs.Laws.{isIts, FullFirst, NeverFull}
 use Rattle.director.proofs.Sound.{Sound}
 use Rattle.director.proofs.Ending.{ended-parts}
@@ -55,12 +54,10 @@ pub record Its (l : List Slot) (m : Segment) (k : ℕ) (rst : Bool) : Type 0 whe
   pub belongs : belongs (m .sender) (getD l k freeSlot .server) ≡ true
   pub flag : m .flags .rst ≡ rst
 
--- an opening: slot k is the lowest free one, the server is the pick and exists, the walk is in range
+-- an opening: slot k is the lowest free one; the server and the walk are the scheduler's pick
 pub record Opening (d : Director) (l : List Slot) (k i : ℕ) (walk : Walk) : Type 0 where
   pub lowest : IsLowest isUnused l k
-  pub picked : nextPick d ≡ Picked.Server (record { 0 = i }) walk
-  pub server : i < d .service .servers
-  pub range : inRange (d .service .scheduler) (d .servers) (d .service .servers) walk ≡ true
+  pub picked : IsPick (d .service .scheduler) (d .servers) (d .service .servers) (d .walk) (record { server = record { 0 = i }; walk = walk })
 
 -- opened: the client has no connection, and the packet opens one
 pub record CanOpen (d : Director) (l : List Slot) (m : Segment) (k i : ℕ) (walk : Walk) : Type 0 where
@@ -121,14 +118,15 @@ unfolding decided
 full-first d l m absent new full = rw (absent, new, full) refl
 
 module _ (d : Director) (l : List Slot) (k : SlotNo) (within : k .0 < length l) where
-  picked-room : (j : SlotNo) (q : Picked) → onPick (Decision.Renew k j) q ≡ Decision.Refuse Refusal.TableFull → ⊥
-  picked-room j Picked.Nobody e = let z : _≡_ {A = ℕ} 0 1 = cc in omega arith
-  picked-room j (Picked.Server i walk) e = let z : _≡_ {A = ℕ} 0 1 = cc in omega arith
+  picked-room : (ended : Director) (j : SlotNo) → onWeights ended (Decision.Renew k j) ≡ Decision.Refuse Refusal.TableFull → ⊥
+  picked-room ended j =
+      by-test (λ (q : Decision). q ≡ Decision.Refuse Refusal.TableFull → ⊥) (noneWeighs (ended .weights)) _ _
+      (λ _ e. let z : _≡_ {A = ℕ} 0 1 = cc in omega arith) (λ _ e. let z : _≡_ {A = ℕ} 0 1 = cc in omega arith)
 
   renewal-room : (f : Found) → firstFrom isUnused 0 (freed l (k .0)) ≡ f
       → onRoom (withOneLess d (getD l (k .0) freeSlot .server .0)) (Decision.Renew k) f ≡ Decision.Refuse Refusal.TableFull → ⊥
   renewal-room Found.Nothing none e = freed-found l (k .0) within none
-  renewal-room (Found.At j) found e = picked-room j (nextPick (withOneLess d (getD l (k .0) freeSlot .server .0))) e
+  renewal-room (Found.At j) found e = picked-room (withOneLess d (getD l (k .0) freeSlot .server .0)) j e
 
 pub never-full : NeverFull
 unfolding decided
@@ -140,26 +138,23 @@ never-full d l m k found new full =
 
 -- 4. Every decision has its grounds
 
-pub scheduler-known : (g : Service) → serviceRight g ≡ true → isScheduler (g .scheduler) ≡ true
-scheduler-known g e =
-    let front = not (eqb (g .address) 0) && not (eqb (g .port) 0) && isProtocol (g .protocol) in
-    both front (isScheduler (g .scheduler)) e .1
+-- in a sound state with a weight above 0 the pick answers a server
+pub somebody : (d : Director) (row : List ℕ) → Sound d row → SomeWeight (d .servers) (d .service .servers)
+    → IsPick (d .service .scheduler) (d .servers) (d .service .servers) (d .walk) (nextPick d)
+somebody d row sound some = rw (sound .weights) (pick-found (d .service .scheduler) (d .servers) (d .service .servers) (d .walk) some (sound .range))
 
--- an opening in a sound state, whatever is shown of it and made of it: a server that exists is picked, and the walk is left in range
+-- an opening in a sound state, whatever is shown of it and made of it
 module _ (d : Director) (row : List ℕ) (sound : Sound d row) (Goal : Decision → Type 0) (make : SlotNo → ServerNo → Walk → Decision)
     (weightless : Goal (Decision.Refuse Refusal.NoWeight)) (full : firstFrom isUnused 0 (slots row) ≡ Found.Nothing → Goal (Decision.Refuse Refusal.TableFull))
     (new : (k : SlotNo) (i : ServerNo) (walk : Walk) → Opening d (slots row) (k .0) (i .0) walk → Goal (make k i walk)) where
-  by-pick : (k : SlotNo) → IsLowest isUnused (slots row) (k .0) → (q : Picked) → nextPick d ≡ q
-      → PickFound (d .service .scheduler) (d .servers) (d .service .servers) q → Goal (onPick (make k) q)
-  by-pick k lowest Picked.Nobody e found = weightless
-  by-pick k lowest (Picked.Server i walk) e found = new k i walk (record { lowest = lowest; picked = e; server = found .0; range = found .2 })
-
   by-room : (f : Found) → firstFrom isUnused 0 (slots row) ≡ f → Goal (onRoom d make f)
   by-room Found.Nothing e = full e
   by-room (Found.At k) e =
-      by-pick k (found-lowest isUnused (slots row) (k .0) e) (nextPick d) refl
-      (rw (sound .weights)
-      (pick-found (d .service .scheduler) (d .servers) (d .service .servers) (d .walk) (scheduler-known (d .service) (sound .settings .right)) (sound .range)))
+      by-test Goal (noneWeighs (d .weights)) _ _ (λ _. weightless)
+      (λ some. new k _ _ (record {
+        lowest = found-lowest isUnused (slots row) (k .0) e;
+        picked = somebody d row sound (no-weight (d .weights) (d .servers) (d .service .servers) (sound .weights) .1 .0 some);
+      }))
 
   opening : Goal (onRoom d make (firstFrom isUnused 0 (slots row)))
   opening = by-room (firstFrom isUnused 0 (slots row)) refl

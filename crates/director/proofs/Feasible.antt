@@ -35,7 +35,7 @@ module _ (d : Director) (row p : List ℕ) (can : Redirectable (d .service .prot
 
   open-ready : (k i : ℕ) (walk : Walk) → Opening d (slots row) k i walk → OpenReady d row p k i
   open-ready k i walk new =
-      let place : i < length (d .servers) = omega (arith, new .server, places (d .servers) (d .service .servers) (sound .settings .set)) in
+      let place : i < length (d .servers) = omega (arith, new .picked .serves .server, places (d .servers) (d .service .servers) (sound .settings .set)) in
       let count = count-slots (d .service .protocol) (d .service .servers) (d .clock) (slots row) (d .servers) (table .1) i place in
       (ready k (new .lowest .within), omega (arith, count, table .0 .most, length-slots row))
 

@@ -10,13 +10,15 @@ use Rattle.lists.proofs.Cases.{both}
 use Rattle.lists.specs.Tests.{keep}
 use Rattle.packet.specs.declared.read.Fault.{Fault}
 use Rattle.packet.specs.declared.read.Flags.{Flags}
+use Rattle.scheduler.proofs.Largest.{no-weight}
 use Rattle.director.specs.declared.state.Refusal.{Refusal}
 use Rattle.director.specs.declared.segment.Sender.{Sender}
 use Rattle.director.specs.declared.segment.Segment.{Segment}
 use Rattle.director.specs.Decide.{isSyn, opens, renews}
 use Rattle.director.specs.Laws.{synAlone, refusals, Laws}
+use Rattle.director.proofs.Sound.{sound-parts}
 use Rattle.director.proofs.Keeping.{unsound-first}
-use Rattle.director.proofs.Decisions.{full-first, never-full}
+use Rattle.director.proofs.Decisions.{full-first, never-full, somebody}
 use Rattle.director.proofs.KeepingPackets.{unread-first}
 use Rattle.director.proofs.Weights.{weights-true, weights-judged, weights-left}
 
@@ -75,4 +77,6 @@ laws = record {
   weights-true = weights-true;
   weights-judged = weights-judged;
   weights-left = weights-left;
+  no-weight-exactly = λ d row sound. no-weight (d .weights) (d .servers) (d .service .servers) (sound-parts d row sound .weights) .0;
+  somebody = λ d row sound. somebody d row (sound-parts d row sound);
 }

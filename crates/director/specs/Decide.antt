@@ -6,8 +6,9 @@ use lib.Dec.{eqb}
 use lib.ListN.{getD}
 use Rattle.packet.specs.declared.read.Flags.{Flags}
 use Rattle.servers.specs.declared.ServerNo.{ServerNo}
-use Rattle.scheduler.specs.declared.walk.Picked.{Picked}
+use Rattle.scheduler.specs.declared.walk.Pick.{Pick}
 use Rattle.scheduler.specs.declared.walk.Walk.{Walk}
+use Rattle.scheduler.specs.Weights.{noneWeighs}
 use Rattle.scheduler.specs.ByNumber.{pickOf}
 use Rattle.table.specs.declared.slot.Slot.{Slot}
 use Rattle.table.specs.declared.slot.SlotNo.{SlotNo}
@@ -40,18 +41,17 @@ belongs Sender.Client i = true
 belongs (Sender.Server source) i = eqb (source .0) (i .0)
 
 -- the server that is next, by the scheduler, which "takes the largest weight and the divisor from the state (2.12)" (SCOPE 10.12)
-abbrev pub nextPick : Director → Picked
+abbrev pub nextPick : Director → Pick
 nextPick d = pickOf (d .service .scheduler) (d .servers) (d .service .servers) (d .weights) (d .walk)
 
--- 14 where every weight is 0, before the walk moves; else what is made of the pick
-abbrev pub onPick : (ServerNo → Walk → Decision) → Picked → Decision
-onPick make Picked.Nobody = Decision.Refuse Refusal.NoWeight
-onPick make (Picked.Server i walk) = make i walk
+-- 14 where every weight is 0, which "is decided before the walk moves" (SCOPE 10.2), so before the pick; else what is made of the pick
+abbrev pub onWeights : Director → (ServerNo → Walk → Decision) → Decision
+onWeights d make = cond (noneWeighs (d .weights)) (Decision.Refuse Refusal.NoWeight) (make (nextPick d .server) (nextPick d .walk))
 
 -- an opening: 13 where no slot is free; "The lowest free slot is taken" (SCOPE 8.4)
 abbrev pub onRoom : Director → (SlotNo → ServerNo → Walk → Decision) → Found → Decision
 onRoom d make Found.Nothing = Decision.Refuse Refusal.TableFull
-onRoom d make (Found.At k) = onPick (make k) (nextPick d)
+onRoom d make (Found.At k) = onWeights d (make k)
 
 -- a packet whose client has no connection: 12 where it opens none
 abbrev pub onAbsent : Director → List Slot → Segment → Decision

@@ -1,5 +1,5 @@
--- What opens and what renews, the phases, the refusals' numbers and, at three places, their order, with SCOPE's values written out, and what a state holds of the
--- weights: where one of these is wrong in code and definition alike, a statement here fails. Assumes nothing: these are statements; proofs/Laws.antt proves them (`laws`).
+-- What opens and what renews, the phases, the refusals' numbers and, at three places, their order, with SCOPE's values written out, what a state holds of the
+-- weights, and who is picked: where one of these is wrong in code and definition alike, a statement here fails. Assumes nothing: these are statements; proofs/Laws.antt proves them (`laws`).
 use Prim.Native.Nat.{ℕ}
 use mathlib.Core.Bool.{Bool, true, false}
 use mathlib.Core.List.{List, [], _∷_, map}
@@ -11,8 +11,9 @@ use Rattle.packet.specs.declared.read.Fault.{Fault}
 use Rattle.packet.specs.declared.read.Flags.{Flags}
 use Rattle.servers.specs.declared.ServerNo.{ServerNo}
 use Rattle.scheduler.specs.declared.weights.Weights.{Weights}
-use Rattle.scheduler.specs.Weights.{weightsOf}
+use Rattle.scheduler.specs.Weights.{weightsOf, noneWeighs}
 use Rattle.scheduler.specs.ByNumber.{pickOf}
+use Rattle.scheduler.specs.Laws.{EachZero, SomeWeight, IsPick}
 use Rattle.table.specs.declared.slot.Slot.{Slot}
 use Rattle.table.specs.declared.slot.SlotNo.{SlotNo}
 use Rattle.table.specs.declared.find.Found.{Found}
@@ -116,6 +117,18 @@ WeightsLeft =
     (d : Director) (row : List ℕ) (now : ℕ)
     → (tickOf d row now .director .weights ≡ d .weights) × ((way : Way) (p : List ℕ) → packetOf way d row p now .director .weights ≡ d .weights)
 
+-- 14 and the pick
+
+-- in a sound state the test for 14 passes exactly where "every weight is 0" (SCOPE 4.14)
+abbrev pub NoWeightExactly : Type 0
+NoWeightExactly = (d : Director) (row : List ℕ) → soundOf d row ≡ true → (noneWeighs (d .weights) ≡ true) ↔ EachZero (d .servers) (d .service .servers)
+
+-- "In any sound state with a weight above 0 the pick of schedulers 1 to 4 answers a server" (SCOPE 10.13)
+abbrev pub SomebodyLaw : Type 0
+SomebodyLaw =
+    (d : Director) (row : List ℕ) → soundOf d row ≡ true → SomeWeight (d .servers) (d .service .servers)
+    → IsPick (d .service .scheduler) (d .servers) (d .service .servers) (d .walk) (nextPick d)
+
 pub record Laws : Type 0 where
   -- a client's packet of TCP (6) opens with these flags and no others; "any UDP inbound" (SCOPE 8.3), which is 17
   pub opens-tcp : (m : Segment) → m .sender ≡ Sender.Client → (opens 6 m ≡ true) ↔ (m .flags ≡ synAlone)
@@ -143,3 +156,6 @@ pub record Laws : Type 0 where
   pub weights-true : WeightsTrue
   pub weights-judged : WeightsJudged
   pub weights-left : WeightsLeft
+  -- 14 and the pick
+  pub no-weight-exactly : NoWeightExactly
+  pub somebody : SomebodyLaw

@@ -6,8 +6,9 @@ use crate::state::Refusal;
 use crate::state::with_one_less;
 use packet::read::Flags;
 use scheduler::pick;
-use scheduler::walk::Picked;
+use scheduler::walk::Pick;
 use scheduler::walk::Walk;
+use scheduler::weights::none_weighs;
 use servers::ServerNo;
 use table::find::Found;
 use table::find::find_client;
@@ -23,7 +24,7 @@ ghost use Rattle.servers.specs.Servers.{countAt};
 ghost use Rattle.table.specs.Slots.{wordsPerSlot, slots, slotAt};
 ghost use mathlib.Core.Bool.{true};
 ghost use Rattle.director.specs.Judge.{soundOf};
-ghost use Rattle.director.specs.Decide.{isSyn, opens, belongs, nextPick, onPick, renews, onRenewal, onPresent, onAbsent, decided};
+ghost use Rattle.director.specs.Decide.{isSyn, opens, belongs, nextPick, onWeights, renews, onRenewal, onPresent, onAbsent, decided};
 ghost use Rattle.director.specs.declared.decide.Decision.{Decision};
 
 // What is to become of a packet: its refusal, or its connection's slot and, where one opens, the server and the walk after the pick; where
@@ -89,7 +90,7 @@ fn renews_connection(segment: Segment, phase: u32) -> bool
 }
 
 // The server that is next, by the scheduler.
-fn next_pick(director: Director) -> Picked
+fn next_pick(director: Director) -> Pick
     ensures { λ r. ⌜ r ≡ nextPick director ⌝ }
 {
     let service = director.service;
@@ -101,12 +102,14 @@ fn next_pick(director: Director) -> Picked
 
 // A packet that would open a connection in the free slot `k`.
 fn decide_free(director: Director, k: SlotNo) -> Decision
-    ensures { λ r. ⌜ r ≡ onPick (Decision.Open k) (nextPick director) ⌝ }
+    ensures { λ r. ⌜ r ≡ onWeights director (Decision.Open k) ⌝ }
 {
-    match next_pick(director) {
-        Picked::Nobody => Decision::Refuse(Refusal::NoWeight),
-        Picked::Server(no, walk) => Decision::Open(k, no, walk),
+    let held = director.weights;
+    if none_weighs(held) {
+        return Decision::Refuse(Refusal::NoWeight);
     }
+    let Pick { server, walk } = next_pick(director);
+    Decision::Open(k, server, walk)
 }
 
 // A packet that would open a connection where the finished one in slot `k` ends: its slot counts as free, its server has one less.
@@ -117,10 +120,12 @@ fn decide_renewal(director: Director, row: &[u32], k: SlotNo) -> Decision
 {
     let ended = with_one_less(director, server_no_at(row, k));
     let free = find_free_with(row, k);
-    match next_pick(ended) {
-        Picked::Nobody => Decision::Refuse(Refusal::NoWeight),
-        Picked::Server(no, walk) => Decision::Renew(k, free, no, walk),
+    let held = ended.weights;
+    if none_weighs(held) {
+        return Decision::Refuse(Refusal::NoWeight);
     }
+    let Pick { server, walk } = next_pick(ended);
+    Decision::Renew(k, free, server, walk)
 }
 
 // A packet whose client has a connection, in slot `k`.

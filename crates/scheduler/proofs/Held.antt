@@ -24,7 +24,7 @@ use Rattle.scheduler.proofs.Largest.{no-weight}
 -- 0 divides the divisor of zeros, so it is 0
 pub weights-zero : ZeroLaw
 weights-zero s n z =
-    simp (eqb-true (largestOf s n) 0 (no-weight s n .1 z), eq-zero-of-zero-dvd (weights-gcd s n .greatest 0 (λ j h p. absurd (omega (arith, z j h)))))
+    simp (eqb-true (largestOf s n) 0 (no-weight (weightsOf s n) s n refl .0 .1 z), eq-zero-of-zero-dvd (weights-gcd s n .greatest 0 (λ j h p. absurd (omega (arith, z j h)))))
 
 pub weights-agree : AgreeLaw
 weights-agree held s n = (agreed, given)

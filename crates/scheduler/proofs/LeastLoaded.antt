@@ -1,20 +1,20 @@
 -- Schedulers 3 and 4 find the least loaded server, and of equals the one of the lowest number. Assumes nothing.
 use mathlib.Core.Bool.{true, false}
 use mathlib.Core.List.{List}
+use mathlib.Core.Logic.{⊎-elim}
 use mathlib.Core.Path.{_≡_}
 use Prim.Native.Nat.{ℕ, _+_, _*_, _<_, _≤_}
-use native.Mathlib.Nat.{le-refl, le-of-lt, lt-of-lt-of-le, lt-of-mul-lt-mul-right, mul-le-mul-right, mul-lt-mul-of-pos-right, mul-right-comm}
+use native.Mathlib.Nat.{le-refl, le-of-lt, eq-or-lt-of-le, lt-of-lt-of-le, lt-of-mul-lt-mul-right, mul-le-mul-right, mul-lt-mul-of-pos-right, mul-right-comm}
 use native.Mathlib.Omega.{arith}
 use lib.Dec.{eqb}
 use borrow.Author.Count.{below-none, below-more}
 use borrow.Author.Tests.{ltb-true, ltb-false, lt-ltb, le-ltb, eqb-true, eqb-false}
 use Rattle.servers.specs.Servers.{serverAt, weightAt}
-use Rattle.scheduler.specs.LeastLoaded.{loadBeside, lighterBy, against, betterOf, leastOf, stayedAt, pickLeast}
+use Rattle.scheduler.specs.LeastLoaded.{loadBeside, lighterBy, against, betterOf, pickLeast}
 use Rattle.scheduler.specs.Scheduler.{holding}
-use Rattle.scheduler.specs.Laws.{IsLeast, LeastFound, LeastLaw, FoundBy, Picking}
+use Rattle.scheduler.specs.Laws.{SomeWeight, IsLeast, LeastLaw, Serves, Picking}
 use Rattle.servers.specs.declared.Server.{Server}
 use Rattle.servers.specs.declared.ServerNo.{ServerNo}
-use Rattle.servers.specs.declared.Found.{Found}
 use Rattle.scheduler.specs.declared.least_loaded.Load.{Load}
 use Rattle.lists.proofs.Cases.{by-test}
 use Rattle.lists.proofs.Folds.{fold-holds}
@@ -47,19 +47,22 @@ lighter-trans by a b c w h g =
     (lighter-trans-by by a b c w (ltb-true (loadBeside by b c) (loadBeside by c b) h) (ltb-false (loadBeside by a c) (loadBeside by c a) g))
 
 module _ (by : Load) (s : List Server) where
-  -- a server of weight 0 changes nothing
-  passed : (k : ℕ) (best : Found) → LeastFound by s k best → weightAt s k ≡ 0 → LeastFound by s (k + 1) best
-  passed k Found.Nobody p w = below-more _ k p w
-  passed k (Found.At r) p w =
+  -- the best of the first k servers, from server 0 on: the least loaded, where some weight is above 0
+  abbrev Best : ℕ → ServerNo → Type 0
+  Best k r = (r .0 ≤ k) × (SomeWeight s k → IsLeast by s k (r .0))
+
+  -- server k, where no server before it weighs
+  alone : (k : ℕ) → 0 < weightAt s k → ((j : ℕ) → j < k → 0 < weightAt s j → ⊥) → IsLeast by s (k + 1) k
+  alone k w none =
       record {
-        below = omega (arith, p .below);
-        weighs = p .weighs;
-        least = below-more _ k (p .least) (λ h. absurd (omega arith));
-        first = p .first;
+        below = omega arith;
+        weighs = w;
+        least = below-more _ k (λ j h v. absurd (none j h v)) (λ v. lighter-same by _);
+        first = λ j h v. absurd (none j h v);
       }
 
   -- a server that carries less than the best takes its place
-  replaced : (k : ℕ) (r : ServerNo) → IsLeast by s k (r .0) → 0 < weightAt s k → lighterBy by (serverAt s k) (serverAt s (r .0)) ≡ true → IsLeast by s (k + 1) k
+  replaced : (k r : ℕ) → IsLeast by s k r → 0 < weightAt s k → lighterBy by (serverAt s k) (serverAt s r) ≡ true → IsLeast by s (k + 1) k
   replaced k r p w l =
       record {
         below = omega arith;
@@ -69,42 +72,62 @@ module _ (by : Load) (s : List Server) where
       }
     where
       beats : (j : ℕ) → j < k → 0 < weightAt s j → lighterBy by (serverAt s k) (serverAt s j) ≡ true
-      beats j h v = lighter-trans by (serverAt s j) (serverAt s k) (serverAt s (r .0)) v l (p .least j h v)
+      beats j h v = lighter-trans by (serverAt s j) (serverAt s k) (serverAt s r) v l (p .least j h v)
 
-  -- a server that carries no less leaves the best
-  kept : (k : ℕ) (r : ServerNo) → IsLeast by s k (r .0) → lighterBy by (serverAt s k) (serverAt s (r .0)) ≡ false → IsLeast by s (k + 1) (r .0)
+  -- a server that weighs nothing or carries no less leaves the best
+  kept : (k r : ℕ) → IsLeast by s k r → (0 < weightAt s k → lighterBy by (serverAt s k) (serverAt s r) ≡ false) → IsLeast by s (k + 1) r
   kept k r p l =
       record {
         below = omega (arith, p .below);
         weighs = p .weighs;
-        least = below-more _ k (p .least) (λ v. l);
+        least = below-more _ k (p .least) l;
         first = p .first;
       }
 
-  compared : (k : ℕ) (best : Found) → LeastFound by s k best → 0 < weightAt s k → LeastFound by s (k + 1) (against by s k best)
-  compared k Found.Nobody p w =
-      record {
-        below = omega arith;
-        weighs = w;
-        least = below-more _ k (λ j h v. absurd (omega (arith, p j h))) (λ v. lighter-same by _);
-        first = λ j h v. absurd (omega (arith, p j h));
-      }
-  compared k (Found.At r) p w =
-      by-test (LeastFound by s (k + 1)) (lighterBy by (serverAt s k) (serverAt s (r .0))) _ _ (replaced k r p w) (kept k r p)
+  -- where server k weighs nothing, another does that weighs
+  fewer : (k : ℕ) → weightAt s k ≡ 0 → (j : ℕ) → j < k + 1 → 0 < weightAt s j → SomeWeight s k
+  fewer k w = below-more _ k (λ j h v. (j, h, v)) (λ v. absurd (omega arith))
 
-  step : (k : ℕ) (best : Found) → LeastFound by s k best → LeastFound by s (k + 1) (betterOf by s best k)
-  step k best p =
-      by-test (LeastFound by s (k + 1)) (eqb (weightAt s k) 0) _ _
-      (λ e. passed k best p (eqb-true (weightAt s k) 0 e))
-      (λ e. compared k best p (omega (arith, eqb-false (weightAt s k) 0 e)))
+  -- server k, which weighs, beside the best r
+  module _ (k : ℕ) (r : ServerNo) (best : Best k r) (w : 0 < weightAt s k) where
+    -- where r weighs nothing, no server before k does
+    unweighed : weightAt s (r .0) ≡ 0 → (j : ℕ) → j < k → 0 < weightAt s j → ⊥
+    unweighed z j h v = omega (arith, best .1 (j, h, v) .weighs)
+
+    -- r is k itself where no server before it weighs, as at the start
+    itself : r .0 ≡ k → (j : ℕ) → j < k → 0 < weightAt s j → ⊥
+    itself e j h v = omega (arith, best .1 (j, h, v) .below)
+
+    lighter : lighterBy by (serverAt s k) (serverAt s (r .0)) ≡ true → 0 < weightAt s (r .0) → IsLeast by s (k + 1) k
+    lighter l v =
+        ⊎-elim (λ e. alone k w (itself e)) (λ h. replaced k (r .0) (best .1 (r .0, h, v)) w l) (eq-or-lt-of-le (best .0))
+
+    heavier : lighterBy by (serverAt s k) (serverAt s (r .0)) ≡ false → 0 < weightAt s (r .0) → IsLeast by s (k + 1) (r .0)
+    heavier l v =
+        ⊎-elim (λ e. rw e (alone k w (itself e))) (λ h. kept k (r .0) (best .1 (r .0, h, v)) (λ _. l)) (eq-or-lt-of-le (best .0))
+
+    compared : Best (k + 1) (against by s k r)
+    compared =
+        by-test (Best (k + 1)) (eqb (weightAt s (r .0)) 0) _ _
+        (λ e. (omega arith, λ some. alone k w (unweighed (eqb-true (weightAt s (r .0)) 0 e))))
+        (λ e.
+        let v : 0 < weightAt s (r .0) = omega (arith, eqb-false (weightAt s (r .0)) 0 e) in
+        by-test (Best (k + 1)) (lighterBy by (serverAt s k) (serverAt s (r .0))) _ _
+        (λ l. (omega arith, λ some. lighter l v)) (λ l. (omega (arith, best .0), λ some. heavier l v)))
+
+  step : (k : ℕ) (r : ServerNo) → Best k r → Best (k + 1) (betterOf by s r k)
+  step k r best =
+      by-test (Best (k + 1)) (eqb (weightAt s k) 0) _ _
+      (λ e.
+      let z = eqb-true (weightAt s k) 0 e in
+      (omega (arith, best .0), λ some. kept k (r .0) (best .1 (fewer k z (some .0) (some .1) (some .2))) (λ v. absurd (omega arith))))
+      (λ e. compared k r best (omega (arith, eqb-false (weightAt s k) 0 e)))
 
 pub least-found : LeastLaw
-least-found by s = fold-holds (betterOf by s) Found.Nobody (LeastFound by s) (below-none _) (step by s)
+least-found by s n = fold-holds (betterOf by s) (record { 0 = 0 }) (Best by s) (le-refl 0, λ some. absurd (omega (arith, some .1))) (step by s) n .1
 
 -- the least loaded is picked, and the walk is left as it was
 pub least-picking : (by : Load) → Picking (holding (pickLeast by))
-least-picking by s n w h = by-found (leastOf by s n) (least-found by s n)
-  where
-    by-found : (f : Found) → LeastFound by s n f → FoundBy (holding (pickLeast by)) s n (stayedAt w f)
-    by-found (Found.At r) p = (p .below, p .weighs, h)
-    by-found Found.Nobody p = p
+least-picking by s n w some range =
+    let p = least-found by s n some in
+    record { server = p .below; weighs = p .weighs; range = range }

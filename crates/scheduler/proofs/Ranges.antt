@@ -13,7 +13,7 @@ use Rattle.scheduler.proofs.RoundRobin.{round-robin-ranged}
 use Rattle.scheduler.proofs.WeightedRoundRobin.{weighted-ranged}
 
 ranged : (k : ℕ) → Ranged (schedulerOf k)
-ranged k = by-number Ranged k round-robin-ranged weighted-ranged (holding-ranged _) (holding-ranged _) (λ e. holding-ranged _)
+ranged k = by-number Ranged k round-robin-ranged weighted-ranged (holding-ranged _) (holding-ranged _)
 
 pub start-in-range : StartLaw
 start-in-range k s n = ranged k .started (largestOf s n) n

@@ -1,5 +1,5 @@
 -- Round-robin picks the next number in the ring with weight above 0, and keeps the walk in its range. Assumes nothing.
-use mathlib.Core.Bool.{true, false}
+use mathlib.Core.Bool.{true}
 use mathlib.Core.List.{List}
 use mathlib.Core.Path.{_≡_, _∙_, refl, ap}
 use Prim.Native.Nat.{ℕ, zero, suc, _+_, _-_, _%_, _<_}
@@ -14,9 +14,10 @@ use Rattle.scheduler.specs.Weights.{weightsOf}
 use Rattle.scheduler.specs.Walk.{atServer}
 use Rattle.scheduler.specs.Ring.{afterIn, nextOf}
 use Rattle.scheduler.specs.RoundRobin.{keepsLevel, weighs, roundRobin}
-use Rattle.scheduler.specs.Laws.{EachZero, levelAfter, FirstFound, NextFound, NextLaw, Ranged, FoundBy, Picking}
+use Rattle.scheduler.specs.Laws.{SomeWeight, levelAfter, IsFirst, SomeTaken, IsNext, NextLaw, Ranged, Serves, Picking}
 use Rattle.scheduler.specs.declared.walk.Place.{Place}
-use Rattle.scheduler.specs.declared.walk.Picked.{Picked}
+use Rattle.scheduler.specs.declared.walk.Walk.{Walk}
+use Rattle.scheduler.specs.declared.walk.Pick.{Pick}
 use Rattle.scheduler.proofs.Walks.{at-some, rests-within}
 use Rattle.scheduler.proofs.Rings.{after-below, next-below, step-more, distance, ring-first}
 
@@ -26,22 +27,22 @@ unfolding levelAfter
 level-same n zero i cw = refl
 level-same n (suc e) i cw = level-same n e (afterIn n i) cw
 
-module _ (s : List Server) (n : ℕ) where
-  -- where none of the n numbers from i on weighs, no server does
-  each-zero : (i : ℕ) → i < n → ((e : ℕ) → e < n → ltb 0 (weightAt s ((i + e) % n)) ≡ false) → EachZero s n
-  each-zero i h f j l =
-      let d = distance n i j h l in
-      omega (arith, ltb-false 0 (weightAt s ((i + d .0) % n)) (f (d .0) (d .1)), ap (weightAt s) (d .2))
+module _ (s : List Server) (n : ℕ) (some : SomeWeight s n) where
+  -- a server that weighs is among the n numbers from i on
+  weighs-taken : (i cw : ℕ) → i < n → SomeTaken keepsLevel (weighs s) n n i cw
+  weighs-taken i cw h =
+      let d = distance n i (some .0) h (some .1) in
+      (d .0, d .1, rw (d .2) (lt-ltb 0 (weightAt s (some .0)) (some .2)))
 
   -- from the number after i on: e + 1 steps from i are e from there
-  next-after : (i cw : ℕ) (p : Picked) → i < n → FirstFound keepsLevel (weighs s) n n (afterIn n i) cw p → NextFound s n i p
-  next-after i cw (Picked.Server r w) h f =
+  next-after : (i cw : ℕ) (p : Pick) → i < n → IsFirst keepsLevel (weighs s) n n (afterIn n i) cw (p .server) (p .walk) → IsNext s n i (p .server .0)
+  next-after i cw p h f =
       record {
         steps = suc (f .steps);
         above = omega arith;
         within = omega (arith, f .within);
         number = f .number ∙ step-more n i (f .steps) h;
-        weighs = ltb-true 0 (weightAt s (r .0)) (f .taken);
+        weighs = ltb-true 0 (weightAt s (p .server .0)) (f .taken);
         passed = passed-by;
       }
     where
@@ -53,25 +54,28 @@ module _ (s : List Server) (n : ℕ) where
             ltb-false 0 (weightAt s ((afterIn n i + e) % n)) (f .passed e (omega arith)),
             ap (weightAt s) (step-more n i e h),
           )
-  next-after i cw Picked.Nobody h f = each-zero (afterIn n i) (after-below n i (omega arith)) f
 
-  moved-found : (i cw : ℕ) (p : Picked) → i < n → eqb cw 0 ≡ true → FirstFound keepsLevel (weighs s) n n i cw p → FoundBy roundRobin s n p
-  moved-found i cw (Picked.Server r v) h z f =
-      let below : r .0 < n = rw (f .number) (mod-lt _ (omega arith)) in
-      (below, ltb-true 0 (weightAt s (r .0)) (f .taken), simp (f .moved, level-same n (f .steps) i cw, z, lt-ltb (r .0) n below))
-  moved-found i cw Picked.Nobody h z f = each-zero i h f
+  moved-serves : (i cw : ℕ) (p : Pick) → i < n → eqb cw 0 ≡ true → IsFirst keepsLevel (weighs s) n n i cw (p .server) (p .walk) → Serves roundRobin s n p
+  moved-serves i cw p h z f =
+      let below : p .server .0 < n = rw (f .number) (mod-lt _ (omega arith)) in
+      record {
+        server = below;
+        weighs = ltb-true 0 (weightAt s (p .server .0)) (f .taken);
+        range = simp (f .moved, level-same n (f .steps) i cw, z, lt-ltb (p .server .0) n below);
+      }
 
 pub round-robin-next : NextLaw
-round-robin-next s n held i cw h =
-    next-after s n (i .0) cw (roundRobin .pick s n held (record { place = Place.At i; level = cw })) h
-    (ring-first keepsLevel (weighs s) n n (afterIn n (i .0)) cw (after-below n (i .0) (omega arith)))
+round-robin-next s n held i cw h some =
+    let w : Walk = record { place = Place.At i; level = cw } in
+    next-after s n some (i .0) cw (roundRobin .pick s n held w) h
+    (ring-first keepsLevel (weighs s) n w (omega arith) (weighs-taken s n some (afterIn n (i .0)) cw (after-below n (i .0) (omega arith))))
 
 pub round-robin-picking : Picking roundRobin
-round-robin-picking s n w r =
+round-robin-picking s n w some r =
     let (z, at) = both (eqb (w .level) 0) (atServer n (w .place)) r in
     let h = next-below n (w .place) (at-some n (w .place) at) in
-    moved-found s n (nextOf n (w .place)) (w .level) (roundRobin .pick s n (weightsOf s n) w) h z
-    (ring-first keepsLevel (weighs s) n n (nextOf n (w .place)) (w .level) h)
+    moved-serves s n some (nextOf n (w .place)) (w .level) (roundRobin .pick s n (weightsOf s n) w) h z
+    (ring-first keepsLevel (weighs s) n w (omega arith) (weighs-taken s n some (nextOf n (w .place)) (w .level) h))
 
 pub round-robin-ranged : Ranged roundRobin
 round-robin-ranged = record {

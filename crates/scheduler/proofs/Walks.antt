@@ -13,7 +13,7 @@ use Rattle.scheduler.specs.Scheduler.{holding}
 use Rattle.scheduler.specs.Laws.{Within, Ranged}
 use Rattle.scheduler.specs.declared.walk.Place.{Place}
 use Rattle.scheduler.specs.declared.walk.Walk.{Walk}
-use Rattle.scheduler.specs.declared.walk.Picked.{Picked}
+use Rattle.scheduler.specs.declared.walk.Pick.{Pick}
 
 -- there is a server where the walk is at one
 pub at-some : (n : ℕ) (p : Place) → atServer n p ≡ true → 0 < n
@@ -33,7 +33,7 @@ widened : (n : ℕ) (p : Place) → 0 < n → Within 1 p → Within n p
 widened n Place.Start h p = p
 widened n (Place.At i) h p = omega arith
 
-pub holding-ranged : (pick : List Server → ℕ → Walk → Picked) → Ranged (holding pick)
+pub holding-ranged : (pick : List Server → ℕ → Walk → Pick) → Ranged (holding pick)
 holding-ranged pick = record {
   started = λ top n h. refl;
   weighed = λ s n i x w h. h;

@@ -1,24 +1,24 @@
 -- Weighted round-robin picks a server whose weight is above 0, and keeps the walk in its range. Assumes nothing.
 use mathlib.Core.Bool.{true, not}
 use mathlib.Core.List.{List}
-use mathlib.Core.Path.{_≡_, ap}
+use mathlib.Core.Path.{_≡_}
 use Prim.Native.Nat.{ℕ, zero, suc, _+_, _-_, _%_, _≤_, _<_}
 use native.Mathlib.Nat.{le-refl, mod-lt}
 use native.Mathlib.Omega.{arith}
 use lib.Dec.{ltb, leb, eqb, leb·zero}
 use lib.Seq.{set-getD}
-use borrow.Author.Tests.{lt-ltb, ltb-true, le-leb, leb-true, leb-false, ne-eqb, eqb-true, eqb-false, not-true}
+use borrow.Author.Tests.{lt-ltb, ltb-true, le-leb, leb-true, ne-eqb, eqb-true, eqb-false, not-true}
 use Rattle.lists.proofs.Cases.{by-test, both}
 use Rattle.servers.specs.Servers.{unused, weightAt, withWeight}
 use Rattle.servers.specs.declared.Server.{Server}
-use Rattle.scheduler.specs.Weights.{weightsGcd, largestOf, weightsOf, noWeight}
-use Rattle.scheduler.specs.Ring.{afterIn, nextOf, ringOf}
+use Rattle.scheduler.specs.Weights.{weightsGcd, largestOf, weightsOf}
+use Rattle.scheduler.specs.Ring.{afterIn, nextOf}
 use Rattle.scheduler.specs.WeightedRoundRobin.{levelPlace, levelAt, reaches, weightedRoundRobin}
-use Rattle.scheduler.specs.Laws.{levelAfter, FirstFound, Within, Ranged, FoundBy, Picking}
+use Rattle.scheduler.specs.Laws.{SomeWeight, levelAfter, IsFirst, SomeTaken, Within, Ranged, Serves, Picking}
 use Rattle.scheduler.specs.declared.walk.Place.{Place}
 use Rattle.scheduler.specs.declared.walk.Walk.{Walk}
-use Rattle.scheduler.specs.declared.walk.Picked.{Picked}
-use Rattle.scheduler.proofs.Largest.{largest-met, no-weight, some-weight}
+use Rattle.scheduler.specs.declared.walk.Pick.{Pick}
+use Rattle.scheduler.proofs.Largest.{largest-met, some-largest}
 use Rattle.scheduler.proofs.Rings.{next-below, distance, ring-first}
 
 -- the level of scheduler 2, with the divisor g and the largest weight m
@@ -49,56 +49,47 @@ module _ (g m : ℕ) (pm : 0 < m) where
   level-start n cw (Place.At i) h =
       level-above (nextOf n (Place.At i)) cw (omega (arith, eqb-false cw 0 (not-true (eqb cw 0) (both (not (eqb cw 0)) (ltb (i .0) n) h .0))))
 
-module _ (s : List Server) (n : ℕ) (w : Walk) (range : weightedRoundRobin .inRange (largestOf s n) n w ≡ true) where
+module _ (s : List Server) (n : ℕ) (w : Walk) (some : SomeWeight s n) (range : weightedRoundRobin .inRange (largestOf s n) n w ≡ true) where
   abbrev first : ℕ
   first = nextOf n (w .place)
 
+  abbrev g : ℕ
+  g = weightsGcd s n
+
+  abbrev m : ℕ
+  m = largestOf s n
+
+  level-found : (e : ℕ) → (0 < levelAfter (levelAt g m) n e first (w .level)) × (levelAfter (levelAt g m) n e first (w .level) ≤ m)
+  level-found e =
+      let pm = some-largest s n some in
+      let r = both (leb (w .level) m) (levelPlace n (w .level) (w .place)) range in
+      level-kept g m pm n e first (w .level)
+      (level-start g m pm n (w .level) (w .place) (r .1)) (level-most g m pm first (w .level) (leb-true (w .level) m (r .0)))
+
   -- a server of the largest weight is at or above every level that the walk comes to
-  module _ (pm : 0 < largestOf s n) where
-    abbrev g : ℕ
-    g = weightsGcd s n
+  reaches-taken : SomeTaken (levelAt g m) (reaches s) n n first (w .level)
+  reaches-taken =
+      let top = largest-met s n (some-largest s n some) in
+      let d = distance n first (top .0) (next-below n (w .place) (omega (arith, some .1))) (top .1) in
+      let l = levelAfter (levelAt g m) n (d .0) first (w .level) in
+      (d .0, d .1, rw (d .2) (le-leb l (weightAt s (top .0)) (omega (arith, level-found (d .0) .1, top .2))))
 
-    abbrev m : ℕ
-    m = largestOf s n
+  pub weighted-first : let p = weightedRoundRobin .pick s n (weightsOf s n) w in IsFirst (levelAt g m) (reaches s) n n first (w .level) (p .server) (p .walk)
+  weighted-first = ring-first (levelAt g m) (reaches s) n w (omega (arith, some .1)) reaches-taken
 
-    level-found : (e : ℕ) → (0 < levelAfter (levelAt g m) n e first (w .level)) × (levelAfter (levelAt g m) n e first (w .level) ≤ m)
-    level-found e =
-        let r = both (leb (w .level) m) (levelPlace n (w .level) (w .place)) range in
-        level-kept g m pm n e first (w .level)
-        (level-start g m pm n (w .level) (w .place) (r .1)) (level-most g m pm first (w .level) (leb-true (w .level) m (r .0)))
-
-    moved-found : (x : Picked) → first < n → FirstFound (levelAt g m) (reaches s) n n first (w .level) x → FoundBy weightedRoundRobin s n x
-    moved-found (Picked.Server r v) h f =
-        let k = level-found (f .steps) in
-        let below : r .0 < n = rw (f .number) (mod-lt _ (omega arith)) in
-        let l = levelAfter (levelAt g m) n (f .steps) first (w .level) in (
-          below,
-          omega (arith, k .0, leb-true l (weightAt s (r .0)) (f .taken)),
-          simp (f .moved, le-leb l m (k .1), ne-eqb l 0 (omega (arith, k .0)), lt-ltb (r .0) n below),
-        )
-    moved-found Picked.Nobody h f =
-        let top = largest-met s n pm in
-        let d = distance n first (top .0) h (top .1) in
-        absurd
-        (omega (
-          arith,
-          level-found (d .0) .1,
-          leb-false (levelAfter (levelAt g m) n (d .0) first (w .level)) (weightAt s ((first + d .0) % n)) (f (d .0) (d .1)),
-          ap (weightAt s) (d .2),
-          top .2,
-        ))
-
-  weighted-found : FoundBy weightedRoundRobin s n (weightedRoundRobin .pick s n (weightsOf s n) w)
-  weighted-found =
-      by-test (FoundBy weightedRoundRobin s n) (noWeight s n) _ _ (no-weight s n .0)
-      (λ e.
-      let pm = some-weight s n e in
-      let h = next-below n (w .place) (omega (arith, largest-met s n pm .1)) in
-      moved-found pm (ringOf (levelAt (weightsGcd s n) (largestOf s n)) (reaches s) n w) h
-      (ring-first (levelAt (weightsGcd s n) (largestOf s n)) (reaches s) n n first (w .level) h))
+  moved-serves : (p : Pick) → IsFirst (levelAt g m) (reaches s) n n first (w .level) (p .server) (p .walk) → Serves weightedRoundRobin s n p
+  moved-serves p f =
+      let k = level-found (f .steps) in
+      let below : p .server .0 < n = rw (f .number) (mod-lt _ (omega (arith, some .1))) in
+      let l = levelAfter (levelAt g m) n (f .steps) first (w .level) in
+      record {
+        server = below;
+        weighs = omega (arith, k .0, leb-true l (weightAt s (p .server .0)) (f .taken));
+        range = simp (f .moved, le-leb l m (k .1), ne-eqb l 0 (omega (arith, k .0)), lt-ltb (p .server .0) n below);
+      }
 
 pub weighted-picking : Picking weightedRoundRobin
-weighted-picking = weighted-found
+weighted-picking s n w some range = moved-serves s n w some range (weightedRoundRobin .pick s n (weightsOf s n) w) (weighted-first s n w some range)
 
 -- an equal weight changes nothing
 same-weight : (s : List Server) (i x : ℕ) → weightAt s i ≡ x → withWeight s i x ≡ s

@@ -7,18 +7,18 @@ use Prim.Native.Nat.{ℕ, zero, suc, _+_, _%_, _<_, _≤_, _∣_}
 use Rattle.servers.specs.Servers.{serverAt, weightAt, withWeight, withCount}
 use Rattle.servers.specs.declared.Server.{Server}
 use Rattle.servers.specs.declared.ServerNo.{ServerNo}
-use Rattle.scheduler.specs.Weights.{weightsGcd, largestOf, weightsOf, weightsAgree, noWeight}
-use Rattle.scheduler.specs.Ring.{afterIn, ringFrom}
+use Rattle.scheduler.specs.Weights.{weightsGcd, largestOf, weightsOf, weightsAgree, noneWeighs, noWeight}
+use Rattle.scheduler.specs.Ring.{afterIn, nextOf, ringOf}
 use Rattle.scheduler.specs.Scheduler.{Scheduler}
 use Rattle.scheduler.specs.RoundRobin.{roundRobin}
+use Rattle.scheduler.specs.WeightedRoundRobin.{levelAt, reaches}
 use Rattle.scheduler.specs.LeastLoaded.{lighterBy, leastOf}
-use Rattle.scheduler.specs.ByNumber.{isScheduler, schedulerOf, startOf, inRange, afterWeight, pickOf}
-use Rattle.servers.specs.declared.Found.{Found}
+use Rattle.scheduler.specs.ByNumber.{schedulerOf, startOf, inRange, afterWeight, pickOf}
 use Rattle.scheduler.specs.declared.least_loaded.Load.{Load}
 use Rattle.scheduler.specs.declared.weights.Weights.{Weights}
 use Rattle.scheduler.specs.declared.walk.Place.{Place}
 use Rattle.scheduler.specs.declared.walk.Walk.{Walk}
-use Rattle.scheduler.specs.declared.walk.Picked.{Picked}
+use Rattle.scheduler.specs.declared.walk.Pick.{Pick}
 
 -- 1. The weights
 
@@ -42,9 +42,15 @@ LargestLaw = (s : List Server) (n : ℕ) → IsLargest s n (largestOf s n)
 abbrev pub EachZero : List Server → ℕ → Type 0
 EachZero s n = (j : ℕ) → j < n → weightAt s j ≡ 0
 
--- the test for refusal 14 passes exactly where each weight is 0
+-- some weight of the first n is above 0
+abbrev pub SomeWeight : List Server → ℕ → Type 0
+SomeWeight s n = (j : ℕ) × (j < n) × (0 < weightAt s j)
+
+-- with the numbers held true, the test for refusal 14 passes exactly where each weight is 0, and fails exactly where some weight is above 0
 abbrev pub NoWeightLaw : Type 0
-NoWeightLaw = (s : List Server) (n : ℕ) → (noWeight s n ≡ true → EachZero s n) × (EachZero s n → noWeight s n ≡ true)
+NoWeightLaw =
+    (held : Weights) (s : List Server) (n : ℕ) → held ≡ weightsOf s n
+    → ((noneWeighs held ≡ true) ↔ EachZero s n) × ((noneWeighs held ≡ false) ↔ SomeWeight s n)
 
 -- where each weight is 0, the largest and the divisor are 0
 abbrev pub ZeroLaw : Type 0
@@ -67,13 +73,8 @@ pub record IsLeast (by : Load) (s : List Server) (n r : ℕ) : Type 0 where
   pub least : (j : ℕ) → j < n → 0 < weightAt s j → lighterBy by (serverAt s j) (serverAt s r) ≡ false
   pub first : (j : ℕ) → j < r → 0 < weightAt s j → lighterBy by (serverAt s r) (serverAt s j) ≡ true
 
--- what was found is the least loaded; nobody only where each weight is 0
-abbrev pub LeastFound : Load → List Server → ℕ → Found → Type 0
-LeastFound by s n (Found.At r) = IsLeast by s n (r .0)
-LeastFound by s n Found.Nobody = EachZero s n
-
 abbrev pub LeastLaw : Type 0
-LeastLaw = (by : Load) (s : List Server) (n : ℕ) → LeastFound by s n (leastOf by s n)
+LeastLaw = (by : Load) (s : List Server) (n : ℕ) → SomeWeight s n → IsLeast by s n (leastOf by s n .0)
 
 -- 3. The ring, for schedulers 1 and 2
 
@@ -96,14 +97,17 @@ module _ (level : ℕ → ℕ → ℕ) (picks : ℕ → ℕ → Bool) (n : ℕ) 
     pub taken : picks (r .0) (levelAfter level n steps i cw) ≡ true
     pub passed : (e : ℕ) → e < steps → picks ((i + e) % n) (levelAfter level n e i cw) ≡ false
 
-  -- what was picked is the first that is taken; nobody only where none of the k is
-  abbrev pub FirstFound : (k i cw : ℕ) → Picked → Type 0
-  FirstFound k i cw (Picked.Server r w) = IsFirst k i cw r w
-  FirstFound k i cw Picked.Nobody = (e : ℕ) → e < k → picks ((i + e) % n) (levelAfter level n e i cw) ≡ false
+  -- some of the k numbers (i + e) mod n is taken at its level
+  abbrev pub SomeTaken : (k i cw : ℕ) → Type 0
+  SomeTaken k i cw = (e : ℕ) × (e < k) × (picks ((i + e) % n) (levelAfter level n e i cw) ≡ true)
 
+-- what is picked is the first of the n numbers that is taken, where one is
 abbrev pub RingLaw : Type 0
 RingLaw =
-    (level : ℕ → ℕ → ℕ) (picks : ℕ → ℕ → Bool) (n k i cw : ℕ) → i < n → FirstFound level picks n k i cw (ringFrom level picks n k i cw)
+    (level : ℕ → ℕ → ℕ) (picks : ℕ → ℕ → Bool) (n : ℕ) (w : Walk) → 0 < n
+    → let i = nextOf n (w .place) in
+    let p = ringOf level picks n w in
+    SomeTaken level picks n n i (w .level) → IsFirst level picks n n i (w .level) (p .server) (p .walk)
 
 -- r is the next number after i in the ring with weight above 0
 pub record IsNext (s : List Server) (n i r : ℕ) : Type 0 where
@@ -114,16 +118,11 @@ pub record IsNext (s : List Server) (n i r : ℕ) : Type 0 where
   pub weighs : 0 < weightAt s r
   pub passed : (e : ℕ) → 0 < e → e < steps → weightAt s ((i + e) % n) ≡ 0
 
--- what was picked is the next after i; nobody only where each weight is 0
-abbrev pub NextFound : List Server → ℕ → ℕ → Picked → Type 0
-NextFound s n i (Picked.Server r w) = IsNext s n i (r .0)
-NextFound s n i Picked.Nobody = EachZero s n
-
 -- round-robin, with i the last pick
 abbrev pub NextLaw : Type 0
 NextLaw =
-    (s : List Server) (n : ℕ) (held : Weights) (i : ServerNo) (cw : ℕ) → i .0 < n
-    → NextFound s n (i .0) (roundRobin .pick s n held (record { place = Place.At i; level = cw }))
+    (s : List Server) (n : ℕ) (held : Weights) (i : ServerNo) (cw : ℕ) → i .0 < n → SomeWeight s n
+    → IsNext s n (i .0) (roundRobin .pick s n held (record { place = Place.At i; level = cw }) .server .0)
 
 -- 4. Each scheduler
 
@@ -142,36 +141,38 @@ pub record Ranged (c : Scheduler) : Type 0 where
   -- no other place than -1 and the n servers is in it
   pub placed : (top n : ℕ) (w : Walk) → 0 < n → c .inRange top n w ≡ true → Within n (w .place)
 
--- an existing server whose weight is above 0, and a walk in the range of scheduler c; nobody only where each weight is 0
-abbrev pub FoundBy : Scheduler → List Server → ℕ → Picked → Type 0
-FoundBy c s n (Picked.Server r w) = (r .0 < n) × (0 < weightAt s (r .0)) × (c .inRange (largestOf s n) n w ≡ true)
-FoundBy c s n Picked.Nobody = EachZero s n
+-- an existing server whose weight is above 0, and a walk in the range of scheduler c
+pub record Serves (c : Scheduler) (s : List Server) (n : ℕ) (p : Pick) : Type 0 where
+  pub server : p .server .0 < n
+  pub weighs : 0 < weightAt s (p .server .0)
+  pub range : c .inRange (largestOf s n) n (p .walk) ≡ true
 
--- with the walk in its range and the numbers held true: so within the n numbers of the ring somebody is met, and the walk stays in range
+-- where some weight is above 0, the walk is in its range and the numbers held are true
 abbrev pub Picking : Scheduler → Type 0
-Picking c = (s : List Server) (n : ℕ) (w : Walk) → c .inRange (largestOf s n) n w ≡ true → FoundBy c s n (c .pick s n (weightsOf s n) w)
+Picking c =
+    (s : List Server) (n : ℕ) (w : Walk) → SomeWeight s n → c .inRange (largestOf s n) n w ≡ true → Serves c s n (c .pick s n (weightsOf s n) w)
 
 -- 5. The pick
 
--- what was picked by scheduler k
-abbrev pub PickFound : ℕ → List Server → ℕ → Picked → Type 0
-PickFound k s n p = FoundBy (schedulerOf k) s n p
+-- server i is whom scheduler k picks among the first n servers s, from the walk w to the walk w′
+pub record Published (k : ℕ) (s : List Server) (n : ℕ) (w : Walk) (i : ServerNo) (w′ : Walk) : Type 0 where
+  -- round-robin: "picked is the next number in the ring with weight above 0" (SCOPE 10.3), after the last pick
+  pub scheduler1 : k ≡ 1 → (last : ServerNo) → w .place ≡ Place.At last → IsNext s n (last .0) (i .0)
+  -- weighted round-robin: "The first server with weight at least cw is picked." (SCOPE 10.5)
+  pub scheduler2 : k ≡ 2 → IsFirst (levelAt (weightsGcd s n) (largestOf s n)) (reaches s) n n (nextOf n (w .place)) (w .level) i w′
+  -- least-connection: "the smallest count among weights above 0; ties to the lowest number" (SCOPE 10.8)
+  pub scheduler3 : k ≡ 3 → IsLeast Load.Count s n (i .0)
+  -- weighted least-connection: "the smallest count/weight among weights above 0, compared by cross products; ties to the lowest number" (SCOPE 10.9)
+  pub scheduler4 : k ≡ 4 → IsLeast Load.PerWeight s n (i .0)
 
--- every scheduler, with the walk in its range and the numbers held true
+-- p is whom scheduler k picks from the walk w: an existing server whose weight is above 0, the published scheduler's, with the walk after it in range
+pub record IsPick (k : ℕ) (s : List Server) (n : ℕ) (w : Walk) (p : Pick) : Type 0 where
+  pub serves : Serves (schedulerOf k) s n p
+  pub published : Published k s n w (p .server) (p .walk)
+
+-- every scheduler answers one, where some weight is above 0, the walk is in its range and the numbers held are true
 abbrev pub PickLaw : Type 0
-PickLaw =
-    (k : ℕ) (s : List Server) (n : ℕ) (w : Walk) → isScheduler k ≡ true
-    → inRange k s n w ≡ true → PickFound k s n (pickOf k s n (weightsOf s n) w)
-
-abbrev pub isNobody : Picked → Bool
-isNobody (Picked.Server r w) = false
-isNobody Picked.Nobody = true
-
--- with the walk in its range and the numbers held true, nobody is picked exactly where every weight is 0 (refusal 14)
-abbrev pub NobodyLaw : Type 0
-NobodyLaw =
-    (k : ℕ) (s : List Server) (n : ℕ) (w : Walk) → isScheduler k ≡ true
-    → inRange k s n w ≡ true → isNobody (pickOf k s n (weightsOf s n) w) ≡ noWeight s n
+PickLaw = (k : ℕ) (s : List Server) (n : ℕ) (w : Walk) → SomeWeight s n → inRange k s n w ≡ true → IsPick k s n w (pickOf k s n (weightsOf s n) w)
 
 -- 6. The walk's range
 

@@ -9,7 +9,6 @@ use Rattle.scheduler.specs.Ring.{ringOf}
 use Rattle.scheduler.specs.Scheduler.{Scheduler}
 use Rattle.scheduler.specs.declared.walk.Place.{Place}
 use Rattle.scheduler.specs.declared.walk.Walk.{Walk}
-use Rattle.scheduler.specs.declared.walk.Picked.{Picked}
 
 -- "place i starts at −1, level cw at 0" (SCOPE 10.5)
 abbrev pub startWalk : Walk
@@ -33,15 +32,12 @@ levelAt g m i cw = cond (eqb i 0) (cond (ltb 0 (cw - g)) (cw - g) m) cw
 abbrev pub reaches : List Server → ℕ → ℕ → Bool
 reaches s i cw = leb cw (weightAt s i)
 
--- "the first server with weight at least cw is picked" (SCOPE 10.5); nobody where the largest weight is 0
-abbrev pub pickWith : List Server → (n g m : ℕ) → Walk → Picked
-pickWith s n g m w = cond (eqb m 0) Picked.Nobody (ringOf (levelAt g m) (reaches s) n w)
-
 abbrev pub weightedRoundRobin : Scheduler
 weightedRoundRobin = record {
   start = λ n. startWalk;
   inRange = λ top n w. inLevels n top w;
   -- "a weight set to a different number restarts this walk; an equal one changes nothing" (SCOPE 10.7)
   afterWeight = λ w old new. cond (eqb old new) w startWalk;
-  pick = λ s n held w. pickWith s n (held .divisor) (held .largest) w;
+  -- "the first server with weight at least cw is picked" (SCOPE 10.5)
+  pick = λ s n held w. ringOf (levelAt (held .divisor) (held .largest)) (reaches s) n w;
 }

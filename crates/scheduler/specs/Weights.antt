@@ -35,6 +35,10 @@ weightsOf s n = record { largest = largestOf s n; divisor = weightsGcd s n }
 abbrev pub weightsAgree : Weights → List Server → ℕ → Bool
 weightsAgree held s n = eqb (held .largest) (largestOf s n) && eqb (held .divisor) (weightsGcd s n)
 
--- "every weight is 0" (SCOPE 4.14), of the first n servers (refusal 14)
+-- "every weight is 0" (SCOPE 4.14), by the numbers held (refusal 14)
+abbrev pub noneWeighs : Weights → Bool
+noneWeighs held = eqb (held .largest) 0
+
+-- the same of the first n servers
 abbrev pub noWeight : List Server → ℕ → Bool
-noWeight s n = eqb (largestOf s n) 0
+noWeight s n = noneWeighs (weightsOf s n)

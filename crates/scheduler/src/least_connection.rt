@@ -1,7 +1,7 @@
 // Least-connection (scheduler 3). Of the servers with a weight above 0 the one with the smallest count is picked.
 use crate::least_loaded::Load;
 use crate::least_loaded::pick_least;
-use crate::walk::Picked;
+use crate::walk::Pick;
 use crate::walk::Walk;
 use crate::walk::held_walk;
 use crate::walk::is_held;
@@ -32,7 +32,7 @@ pub fn after_weight(walk: Walk, old: u16, new: u16) -> Walk
 }
 
 // The pick among the first n servers.
-pub fn pick(servers: [Server; 64], n: u32, held: Weights, walk: Walk) -> Picked
+pub fn pick(servers: [Server; 64], n: u32, held: Weights, walk: Walk) -> Pick
     ensures { λ r. ⌜ r ≡ leastConnection .pick servers n held walk ⌝ }
 {
     pick_least(Load::Count, servers, n, walk)

@@ -1,9 +1,8 @@
 // The least loaded of the servers with a weight above 0, for least-connection and weighted least-connection; of equals, the
 // one with the lowest number. Quotients are compared by cross products: a.count / a.weight < b.count / b.weight where
 // a.count * b.weight < b.count * a.weight.
-use crate::walk::Picked;
+use crate::walk::Pick;
 use crate::walk::Walk;
-use servers::Found;
 use servers::Server;
 use servers::ServerNo;
 use servers::server_at;
@@ -33,31 +32,26 @@ fn lighter(by: Load, a: Server, b: Server) -> bool
     load_beside(by, a, b) < load_beside(by, b, a)
 }
 
-// The better of the best so far and one server more, whose number is higher.
-fn better(by: Load, servers: [Server; 64], best: Found, no: ServerNo) -> Found
+// The better of the best so far and one server more: a weight of 0 is never better, and any other is better than it.
+fn better(by: Load, servers: [Server; 64], best: ServerNo, no: ServerNo) -> ServerNo
     ensures { λ r. ⌜ r ≡ betterOf by servers best (no .0) ⌝ }
 {
     let server = server_at(servers, no);
     if server.weight == 0 {
         return best;
     }
-    match best {
-        Found::Nobody => Found::At(no),
-        Found::At(b) => {
-            if lighter(by, server, server_at(servers, b)) {
-                Found::At(no)
-            } else {
-                best
-            }
-        }
+    let held = server_at(servers, best);
+    if held.weight == 0 {
+        return no;
     }
+    if lighter(by, server, held) { no } else { best }
 }
 
 // The least loaded of the first n servers, of those whose weight is above 0.
-pub fn least(by: Load, servers: [Server; 64], n: u32) -> Found
+pub fn least(by: Load, servers: [Server; 64], n: u32) -> ServerNo
     ensures { λ r. ⌜ r ≡ leastOf by servers n ⌝ }
 {
-    let mut best = Found::Nobody;
+    let mut best = ServerNo(0);
     for i in 0..n {
         best = better(by, servers, best, ServerNo(i));
     }
@@ -65,12 +59,11 @@ pub fn least(by: Load, servers: [Server; 64], n: u32) -> Found
 }
 
 // The least loaded of the first n servers picked; the walk stays where it is.
-pub fn pick_least(by: Load, servers: [Server; 64], n: u32, walk: Walk) -> Picked
+pub fn pick_least(by: Load, servers: [Server; 64], n: u32, walk: Walk) -> Pick
     ensures { λ r. ⌜ r ≡ pickLeast by servers n walk ⌝ }
 {
-    let found = least(by, servers, n);
-    match found {
-        Found::At(no) => Picked::Server(no, walk),
-        Found::Nobody => Picked::Nobody,
+    Pick {
+        server: least(by, servers, n),
+        walk,
     }
 }

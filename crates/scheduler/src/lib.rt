@@ -1,5 +1,6 @@
 // Picks a server for a new connection, by one of the four published schedulers (SCOPE 1.4). A scheduler is one file: where its walk
-// starts, the walk's range, what a weight change makes of it, and the pick. Here a scheduler's number says which it is.
+// starts, the walk's range, what a weight change makes of it, and the pick. Here a scheduler's number says which it is; the last arm is
+// scheduler 4, since refusals 2 and 15 let no other number come here.
 pub mod least_connection;
 pub mod least_loaded;
 pub mod ring;
@@ -10,10 +11,8 @@ pub mod weighted_round_robin;
 pub mod weights;
 
 use servers::Server;
-use walk::Picked;
+use walk::Pick;
 use walk::Walk;
-use walk::held_walk;
-use walk::is_held;
 use weights::Weights;
 ghost use mathlib.Core.Path.{_≡_};
 ghost use Rattle.scheduler.specs.ByNumber.{isScheduler, startOf, inRangeTo, afterWeight, pickOf};
@@ -39,8 +38,7 @@ pub fn start(scheduler: u8, n: u32) -> Walk
         1 => round_robin::start(n),
         2 => weighted_round_robin::start(n),
         3 => least_connection::start(n),
-        4 => weighted_least_connection::start(n),
-        _ => held_walk(),
+        _ => weighted_least_connection::start(n),
     }
 }
 
@@ -52,8 +50,7 @@ pub fn in_range(scheduler: u8, top: u16, n: u32, walk: Walk) -> bool
         1 => round_robin::in_range(top, n, walk),
         2 => weighted_round_robin::in_range(top, n, walk),
         3 => least_connection::in_range(top, n, walk),
-        4 => weighted_least_connection::in_range(top, n, walk),
-        _ => is_held(walk),
+        _ => weighted_least_connection::in_range(top, n, walk),
     }
 }
 
@@ -65,21 +62,19 @@ pub fn after_weight(scheduler: u8, walk: Walk, old: u16, new: u16) -> Walk
         1 => round_robin::after_weight(walk, old, new),
         2 => weighted_round_robin::after_weight(walk, old, new),
         3 => least_connection::after_weight(walk, old, new),
-        4 => weighted_least_connection::after_weight(walk, old, new),
-        _ => walk,
+        _ => weighted_least_connection::after_weight(walk, old, new),
     }
 }
 
-// Picks one of the first n servers by scheduler 1 to 4, with the walk after it. With the walk in its range and the numbers held
-// true, nobody is picked exactly where every weight is 0.
-pub fn pick(scheduler: u8, servers: [Server; 64], n: u32, held: Weights, walk: Walk) -> Picked
+// Picks one of the first n servers by scheduler 1 to 4, with the walk after it. With the walk in its range, the numbers held true and
+// some weight above 0, it is an existing server of weight above 0.
+pub fn pick(scheduler: u8, servers: [Server; 64], n: u32, held: Weights, walk: Walk) -> Pick
     ensures { λ r. ⌜ r ≡ pickOf scheduler servers n held walk ⌝ }
 {
     match scheduler {
         1 => round_robin::pick(servers, n, held, walk),
         2 => weighted_round_robin::pick(servers, n, held, walk),
         3 => least_connection::pick(servers, n, held, walk),
-        4 => weighted_least_connection::pick(servers, n, held, walk),
-        _ => Picked::Nobody,
+        _ => weighted_least_connection::pick(servers, n, held, walk),
     }
 }

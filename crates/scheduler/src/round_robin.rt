@@ -1,10 +1,12 @@
 // Round-robin (scheduler 1). The walk's place is the last pick; the next number in the ring with a weight above 0 is
-// picked. A weight of 0 takes a server out of service. Each number is tried once: where all n are out, nobody is picked.
+// picked. A weight of 0 takes a server out of service. Where some weight is above 0, all numbers but one may be passed, and that one
+// needs no test.
 use crate::ring::after;
 use crate::ring::last;
+use crate::ring::most_passed;
 use crate::ring::next;
 use crate::ring::picked_at;
-use crate::walk::Picked;
+use crate::walk::Pick;
 use crate::walk::Place;
 use crate::walk::Walk;
 use crate::walk::rests_at;
@@ -39,13 +41,13 @@ pub fn after_weight(walk: Walk, old: u16, new: u16) -> Walk
 }
 
 // The pick among the first n servers.
-pub fn pick(servers: [Server; 64], n: u32, held: Weights, walk: Walk) -> Picked
+pub fn pick(servers: [Server; 64], n: u32, held: Weights, walk: Walk) -> Pick
     ensures { λ r. ⌜ r ≡ roundRobin .pick servers n held walk ⌝ }
 {
     let place = walk.place;
     let level = walk.level;
     let mut no = next(place, n);
-    let mut left = n;
+    let mut left = most_passed(n);
     while 0 < left {
         if 0 < weight_at(servers, no) {
             return picked_at(no, level);
@@ -53,5 +55,5 @@ pub fn pick(servers: [Server; 64], n: u32, held: Weights, walk: Walk) -> Picked
         no = after(no, n);
         left -= 1;
     }
-    Picked::Nobody
+    picked_at(no, level)
 }

@@ -15,10 +15,10 @@ pub struct Walk {
     pub level: u16,
 }
 
-// A server picked, with the walk after it; or nobody.
-pub enum Picked {
-    Server(ServerNo, Walk),
-    Nobody,
+// The server picked, with the walk after it.
+pub struct Pick {
+    pub server: ServerNo,
+    pub walk: Walk,
 }
 
 // Whether a place is at one of the first n servers.

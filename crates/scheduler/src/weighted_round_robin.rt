@@ -3,9 +3,10 @@
 // The first server with a weight at or above the level is picked, so in each round of levels a server is picked
 // weight / divisor times, and higher weights come first.
 use crate::ring::after;
+use crate::ring::most_passed;
 use crate::ring::next;
 use crate::ring::picked_at;
-use crate::walk::Picked;
+use crate::walk::Pick;
 use crate::walk::Place;
 use crate::walk::Walk;
 use crate::weights::Weights;
@@ -68,18 +69,15 @@ fn level_at(no: ServerNo, level: u16, divisor: u16, top: u16) -> u16
 }
 
 // The pick among the first n servers, with the largest weight and the divisor that are held.
-pub fn pick(servers: [Server; 64], n: u32, held: Weights, walk: Walk) -> Picked
+pub fn pick(servers: [Server; 64], n: u32, held: Weights, walk: Walk) -> Pick
     ensures { λ r. ⌜ r ≡ weightedRoundRobin .pick servers n held walk ⌝ }
 {
     let top = held.largest;
     let divisor = held.divisor;
-    if top == 0 {
-        return Picked::Nobody;
-    }
     let place = walk.place;
     let mut level = walk.level;
     let mut no = next(place, n);
-    let mut left = n;
+    let mut left = most_passed(n);
     while 0 < left {
         level = level_at(no, level, divisor, top);
         if level <= weight_at(servers, no) {
@@ -88,5 +86,5 @@ pub fn pick(servers: [Server; 64], n: u32, held: Weights, walk: Walk) -> Picked
         no = after(no, n);
         left -= 1;
     }
-    Picked::Nobody
+    picked_at(no, level_at(no, level, divisor, top))
 }

@@ -4,7 +4,7 @@ use servers::Server;
 use servers::ServerNo;
 ghost use mathlib.Core.Path.{_≡_};
 ghost use Prim.Native.Nat.{_≤_, max};
-ghost use Rattle.scheduler.specs.Weights.{gcdOf, weightsOf, weightsAgree};
+ghost use Rattle.scheduler.specs.Weights.{gcdOf, weightsOf, weightsAgree, noneWeighs};
 
 // The largest weight of the servers in use, and the greatest common divisor of their weights: both 0 where every weight is 0.
 pub struct Weights {
@@ -50,4 +50,11 @@ pub fn weights_agree(held: Weights, servers: [Server; 64], n: u32) -> bool
 {
     let given = weights_of(servers, n);
     (held.largest == given.largest) & (held.divisor == given.divisor)
+}
+
+// Whether every weight is 0, by the numbers held (refusal 14).
+pub fn none_weighs(held: Weights) -> bool
+    ensures { λ r. ⌜ r ≡ noneWeighs held ⌝ }
+{
+    held.largest == 0
 }

@@ -1,14 +1,17 @@
--- `decide::decide_free` meets its contract: each arm rewrites with the pick.
+-- `decide::decide_free` meets its contract: each return rewrites with the test of the weights, the second with the pick.
 -- Assumes nothing.
+use mathlib.Core.Path.{sym, _∙_}
 use borrow.Author.Needs.{needs}
 use Rattle.director.proofs.decide.decide_free.Statement.{statement}
 use Rattle.director.proofs.decide.decide_free.Tie as tie
 
 returns : tie.Need-returns
-returns c = simp (← (c .before .before .next-pick .ensures), c .enum-told .given .1)
+returns c = simp (sym (c .before .none-weighs .ensures) ∙ c .if1 .taken)
 
 returns-2 : tie.Need-returns-2
-returns-2 c = simp (← (c .before .before .before .next-pick .ensures), c .before .no .given .1)
+returns-2 c =
+    let b = c .before .before .before in
+    simp (sym (b .before .none-weighs .ensures) ∙ b .if1 .left, ← (c .before .before .next-pick .ensures))
 
 pub decide-free-spec : {M : Type 1} → statement M
-decide-free-spec = tie.close (tie.spec (λ c κs. search needs) (λ c. search needs) (λ c. search needs) returns returns-2)
+decide-free-spec = tie.close (tie.spec (λ c κs. search needs) returns (λ c κs. search needs) returns-2)

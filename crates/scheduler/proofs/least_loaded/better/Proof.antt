@@ -9,30 +9,37 @@ returns : tie.Need-returns
 returns c = simp (← (c .before .before .server-at .ensures), eq-eqb _ _ (c .if1 .taken))
 
 returns-2 : tie.Need-returns-2
-returns-2 c = simp (← (c .before .before .before .before .server-at .ensures), ne-eqb _ _ (c .before .before .if1 .left), c .enum-told .given .1)
+returns-2 c =
+    let b = c .before .before .before in
+    simp (
+      ← (b .before .before .server-at .ensures),
+      ne-eqb _ _ (b .if1 .left),
+      ← (c .before .before .server-at2 .ensures),
+      eq-eqb _ _ (c .if2 .taken),
+    )
 
 returns-3 : tie.Need-returns-3
 returns-3 c =
-    let b = c .before .before .before .before in
+    let b = c .before .before in
     simp (
-      ← (b .before .before .before .before .server-at .ensures),
-      ne-eqb _ _ (b .before .before .if1 .left),
-      b .best .given .1,
-      ← (c .before .before .server-at2 .ensures),
+      ← (b .before .before .before .before .before .server-at .ensures),
+      ne-eqb _ _ (b .before .before .before .if1 .left),
+      ← (b .before .before .server-at2 .ensures),
+      ne-eqb _ _ (b .if2 .left),
       ← (c .before .lighter .ensures),
-      c .if2 .taken,
+      c .if3 .taken,
     )
 
 returns-4 : tie.Need-returns-4
 returns-4 c =
-    let b = c .before .before .before .before in
+    let b = c .before .before in
     simp (
-      ← (b .before .before .before .before .server-at .ensures),
-      ne-eqb _ _ (b .before .before .if1 .left),
-      b .best .given .1,
-      ← (c .before .before .server-at2 .ensures),
+      ← (b .before .before .before .before .before .server-at .ensures),
+      ne-eqb _ _ (b .before .before .before .if1 .left),
+      ← (b .before .before .server-at2 .ensures),
+      ne-eqb _ _ (b .if2 .left),
       ← (c .before .lighter .ensures),
-      c .if2 .left,
+      c .if3 .left,
     )
 
 pub better-spec : {M : Type 1} → statement M
@@ -41,10 +48,8 @@ better-spec =
     (tie.spec
     (λ c κs. search needs)
     returns
-    (λ c. search needs)
-    (λ c. search needs)
-    (λ c κs. search needs)
     (λ c κs. search needs)
     returns-2
+    (λ c κs. search needs)
     returns-3
     returns-4)

@@ -14,7 +14,7 @@ use Rattle.scheduler.proofs.round_robin.pick.Tie as tie
 
 abbrev Inv-loop : tie.InvT-loop
 Inv-loop servers n level no₀ left₀ no' left =
-    Picks keepsLevel (weighs servers) n left (no' .0) level (ringFrom keepsLevel (weighs servers) n n (no₀ .0) level)
+    Picks keepsLevel (weighs servers) n left (no' .0) level (ringFrom keepsLevel (weighs servers) n left₀ (no₀ .0) level)
 
 abbrev μ-loop : tie.MeasureT-loop
 μ-loop servers n level no₀ left₀ no' left = left
@@ -25,18 +25,20 @@ loop-holds c = record { whole = refl }
 returns : tie.Need-returns Inv-loop μ-loop
 returns c =
     let l = c .before .before .before .before in
-    rw (c .picked-at .ensures, ← (l .before .next .ensures))
-    (ring-here (l .loop .inv) (omega arith) refl (lt-ltb 0 (weightAt (l .before .before .args .servers) (l .loop .no .0)) (omega arith)))
+    let a = l .before .before .before .args in
+    rw (c .picked-at .ensures, ← (l .before .before .next .ensures), ← (l .before .most-passed .ensures))
+    (ring-here (l .loop .inv) refl (lt-ltb 0 (weightAt (a .servers) (l .loop .no .0)) (omega arith)))
 
 loop-again : tie.Need-loop-again Inv-loop μ-loop
 loop-again c =
     let l = c .before .before .before .before in
-    ring-on (l .loop .inv) (omega arith) refl (le-ltb 0 (weightAt (l .before .before .args .servers) (l .loop .no .0)) (omega arith)) (c .after .ensures)
+    let a = l .before .before .before .args in
+    ring-on (l .loop .inv) (omega arith) refl (le-ltb 0 (weightAt (a .servers) (l .loop .no .0)) (omega arith)) (c .after .ensures)
 
 returns-2 : tie.Need-returns-2 Inv-loop μ-loop
 returns-2 c =
-    let l = c .before in
-    rw (← (l .before .next .ensures)) (ring-end (l .loop .inv) (omega arith))
+    let l = c .before .before in
+    rw (c .picked-at2 .ensures, ← (l .before .before .next .ensures), ← (l .before .most-passed .ensures)) (ring-end (l .loop .inv) (omega arith) refl)
 
 pub pick-spec : {M : Type 1} → statement M
 pick-spec =
@@ -44,6 +46,7 @@ pick-spec =
     (tie.spec
     Inv-loop
     μ-loop
+    (λ c κs. search needs)
     (λ c κs. search needs)
     loop-holds
     (λ c κs. search needs)
@@ -53,4 +56,5 @@ pick-spec =
     (λ c. search needs)
     (λ c. search needs)
     loop-again
+    (λ c κs. search needs)
     returns-2)
