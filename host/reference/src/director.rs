@@ -188,7 +188,11 @@ fn meet(
 /// A packet that opens: 13, 14 in that order, or the opening. A refusal changes nothing.
 fn open(state: &mut State, row: &mut [u32], client: Client) -> Taken {
     let free = table::lowest_free(row).ok_or(refusal::TABLE_FULL)?;
-    let (server, walk) = scheduler::pick(state).ok_or(refusal::NO_WEIGHT)?;
+    // 14: "every weight is 0", as the largest is; "decided before the walk moves"
+    if state.largest_weight == 0 {
+        return Err(refusal::NO_WEIGHT);
+    }
+    let (server, walk) = scheduler::pick(state);
     let opened = Slot {
         phase: connection::NONE_FINISHED,
         address: client.address,

@@ -38,48 +38,35 @@ pub fn after_weight_change(service: &Service, walk: Walk) -> Walk {
     }
 }
 
-/// The pick and the walk after it; None when every weight is 0 (refusal 14).
-/// Counts on a sound state.
-pub fn pick(state: &State) -> Option<(ServerNumber, Walk)> {
+/// The pick and the walk after it. Counts on a sound state with a weight above 0: "A pick happens only
+/// after 13 and 14 are passed."
+pub fn pick(state: &State) -> (ServerNumber, Walk) {
     let (servers, walk) = (state.used_servers(), state.walk);
-    if state.weights().all(|weight| weight == 0) {
-        return None;
-    }
     match state.service.scheduler {
-        ROUND_ROBIN => round_robin(servers, walk),
+        ROUND_ROBIN => round_robin(state),
         WEIGHTED_ROUND_ROBIN => weighted_round_robin(state),
-        LEAST_CONNECTION => least(servers, |_| 1).map(|number| (number, walk)),
-        _ => least(servers, |server| u64::from(server.weight)).map(|number| (number, walk)),
+        LEAST_CONNECTION => (least(servers, |_| 1), walk),
+        _ => (least(servers, |server| u64::from(server.weight)), walk),
     }
 }
 
 /// 1: "the next number in the ring with weight above 0"
-fn round_robin(servers: &[Server], walk: Walk) -> Option<(ServerNumber, Walk)> {
-    let n = servers.len();
-    let last = usize::try_from(walk.place).ok()?;
-    let next = (1..=n).map(|step| (last + step) % n).find(|&i| servers[i].weight > 0)?;
-    let place = next as i64;
-    Some((ServerNumber(next), Walk { place, level: walk.level }))
+fn round_robin(state: &State) -> (ServerNumber, Walk) {
+    let step = |walk: Walk| Walk { place: next_in_ring(state, walk), ..walk };
+    first_in_ring(state, step, |server, _| server.weight > 0)
 }
 
-/// 2: steps until a server has weight at least cw. A largest weight stands within any n places,
-/// and cw is never above it, so n steps are enough.
-fn weighted_round_robin(state: &State) -> Option<(ServerNumber, Walk)> {
-    let (servers, mut walk) = (state.used_servers(), state.walk);
-    for _ in 0..servers.len() {
-        walk = step(state, walk);
-        let number = usize::try_from(walk.place).ok()?;
-        if servers[number].weight >= walk.level {
-            return Some((ServerNumber(number), walk));
-        }
-    }
-    None
+/// 2: "The first server with weight at least cw is picked." One of the largest weight stands in the
+/// ring, and cw is never above it.
+fn weighted_round_robin(state: &State) -> (ServerNumber, Walk) {
+    let step = |walk| weighted_step(state, walk);
+    first_in_ring(state, step, |server, level| server.weight >= level)
 }
 
 /// "i becomes (i+1) mod n; if i is 0, cw drops by the greatest common divisor of all weights,
 /// and if not above 0 becomes the largest weight"; "scheduler 2's pick takes them from there"
-fn step(state: &State, walk: Walk) -> Walk {
-    let place = (walk.place + 1) % state.used_servers().len() as i64;
+fn weighted_step(state: &State, walk: Walk) -> Walk {
+    let place = next_in_ring(state, walk);
     if place != 0 {
         return Walk { place, level: walk.level };
     }
@@ -90,21 +77,41 @@ fn step(state: &State, walk: Walk) -> Walk {
     Walk { place, level }
 }
 
+fn next_in_ring(state: &State, walk: Walk) -> i64 {
+    (walk.place + 1) % i64::from(state.service.servers)
+}
+
+/// Steps until a server fits. Some server of the ring does, so at most n−1 are passed, and behind
+/// n−1 that don't fit stands the one that does.
+fn first_in_ring(
+    state: &State,
+    step: impl Fn(Walk) -> Walk,
+    fits: impl Fn(&Server, u16) -> bool,
+) -> (ServerNumber, Walk) {
+    let servers = state.used_servers();
+    let mut walk = step(state.walk);
+    for _ in 1..servers.len() {
+        if fits(&servers[walk.place as usize], walk.level) {
+            break;
+        }
+        walk = step(walk);
+    }
+    (ServerNumber(walk.place as usize), walk)
+}
+
 /// 3 and 4: smallest count/divisor among weights above 0, "compared by cross products; ties to
 /// the lowest number". 3 divides by 1.
-fn least(servers: &[Server], divisor: impl Fn(&Server) -> u64) -> Option<ServerNumber> {
-    let mut best: Option<usize> = None;
+fn least(servers: &[Server], divisor: impl Fn(&Server) -> u64) -> ServerNumber {
+    let is_smaller = |one: &Server, other: &Server| {
+        u64::from(one.count) * divisor(other) < u64::from(other.count) * divisor(one)
+    };
+    let mut best = 0;
     for (number, server) in servers.iter().enumerate() {
-        if server.weight == 0 {
-            continue;
-        }
-        let better = best.is_none_or(|lower| {
-            let held = &servers[lower];
-            u64::from(server.count) * divisor(held) < u64::from(held.count) * divisor(server)
-        });
-        if better {
-            best = Some(number);
+        let held = &servers[best];
+        // the first one is held whatever its weight; at weight 0 it gives way to any above 0
+        if server.weight > 0 && (held.weight == 0 || is_smaller(server, held)) {
+            best = number;
         }
     }
-    best.map(ServerNumber)
+    ServerNumber(best)
 }

@@ -96,7 +96,7 @@ impl Meeting<'_> {
         let mut ticked = self.moment.before.clone();
         let tick = Call::Tick { clock: self.clock };
         Reference.make(&tick, &mut ticked.state, &mut ticked.row, &mut []);
-        let early = scheduler::pick(&ticked.state);
-        early.is_some_and(|(server, _)| server.0 as u32 != self.moment.told.number)
+        let (early, _) = scheduler::pick(&ticked.state);
+        early.0 as u32 != self.moment.told.number
     }
 }

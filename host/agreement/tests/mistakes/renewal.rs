@@ -84,8 +84,10 @@ struct EarlyPick;
 impl Side for EarlyPick {
     fn make(&self, call: &Call, state: &mut State, row: &mut [u32], packet: &mut [u8]) -> Told {
         let met = met(call, state, row);
-        let by_count = met.filter(|met| met.state.service.scheduler >= LEAST_CONNECTION);
-        let early = by_count.and_then(|Met { state, .. }| scheduler::pick(&state));
+        let picks_by_count = |Met { state, .. }: &Met| {
+            state.service.scheduler >= LEAST_CONNECTION && state.largest_weight > 0
+        };
+        let early = met.filter(picks_by_count).map(|Met { state, .. }| scheduler::pick(&state));
         let given = state.servers.map(|server| server.weight);
         if let Some((picked, _)) = early {
             // no other can be picked then

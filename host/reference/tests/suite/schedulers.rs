@@ -15,7 +15,7 @@ fn weighted(weights: &[u16], from: Walk) -> (usize, Walk) {
     let mut director = Director::new(TCP, 2, weights, 1);
     director.state.walk = from;
     assert!(director.sound());
-    let (number, after) = scheduler::pick(&director.state).unwrap();
+    let (number, after) = scheduler::pick(&director.state);
     director.state.walk = after;
     assert!(director.sound());
     (number.0, after)

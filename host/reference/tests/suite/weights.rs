@@ -225,7 +225,7 @@ fn the_pick_of_scheduler_2_takes_both_from_the_state() {
     for (from, level) in [((-1, 0), 5), ((1, 6), 3), ((1, 4), 1), ((1, 3), 5)] {
         state.walk = Walk { place: from.0, level: from.1 };
         let after = Walk { place: 0, level };
-        assert_eq!(scheduler::pick(&state), Some((ServerNumber(0), after)));
+        assert_eq!(scheduler::pick(&state), (ServerNumber(0), after));
     }
 }
 
@@ -264,7 +264,7 @@ fn compared_picks(rng: &mut Rng) -> usize {
             return compared;
         }
         let (number, walk) = pick(&director.state);
-        assert_eq!(scheduler::pick(&director.state), Some((ServerNumber(number), walk)));
+        assert_eq!(scheduler::pick(&director.state), (ServerNumber(number), walk));
         director.state.walk = walk;
     }
     12
