@@ -1,5 +1,6 @@
 //! One test program; each module holds one subject of the rules (docs/SCOPE.md).
 
+mod always_a_server;
 mod book;
 mod checksums;
 mod connections;

@@ -165,6 +165,7 @@ fn open(director: &mut Director, slot: usize, words: [u32; 5]) {
         end(director, old);
     }
     assert_eq!(director.row.chunks(5).position(|slot| slot[0] == 0), Some(slot));
+    assert!(director.state.weights().any(|weight| weight > 0), "14 is due");
     let (picked, walk) = pick(&director.state);
     assert_eq!(picked, words[3] as usize);
     director.place(slot, words);
