@@ -1,8 +1,11 @@
 //! Which edges a run has met, so that a generator that has lost one is seen.
 
 mod checksum;
+mod picks;
 mod renewal;
 mod weights;
+
+pub use picks::is_last_of_ring;
 
 use crate::call::{Call, Told};
 use crate::counted::Counted;
@@ -160,7 +163,8 @@ impl Moment<'_> {
 
 /// All edges of single calls.
 fn all() -> impl Iterator<Item = &'static Edge> {
-    EDGES.iter().chain(&renewal::EDGES).chain(&checksum::EDGES).chain(&weights::EDGES)
+    let of_files = [&EDGES[..], &renewal::EDGES, &checksum::EDGES, &weights::EDGES, &picks::EDGES];
+    of_files.into_iter().flatten()
 }
 
 /// The edges of single calls, none met.
