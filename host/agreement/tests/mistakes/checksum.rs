@@ -1,15 +1,11 @@
 //! Mistakes about a header checksum that is not valid: its number, its place in the order, what it changes, what is valid.
 
-use crate::support::{is_found, Made, Mistaken};
+use crate::support::{is_found, refused, Made, Mistaken};
 use agreement::call::{Call, Told};
 use agreement::sides::{Reference, Side};
 use reference::checksum::{fold, is_valid, sum};
 use reference::header::{word, SHORTEST};
 use reference::State;
-
-fn refused(refusal: u32) -> Told {
-    Told { refusal, number: 0, change: 0 }
-}
 
 /// The header of the packet that came, as long as its length word says, where there are so many bytes.
 fn header<'a>(made: &Made<'a>) -> Option<&'a [u8]> {

@@ -4,6 +4,7 @@ mod checksum;
 mod many;
 mod mistaken_many;
 mod packets;
+mod picks;
 mod renewal;
 mod state;
 mod support;

@@ -1,11 +1,11 @@
 //! Mistakes about a SYN on a connection that both have finished.
 
-use crate::support::is_found;
+use crate::support::{is_found, make_picking};
 use agreement::call::{Call, Told};
 use agreement::sides::{Reference, Side};
 use reference::data::{Client, LEAST_CONNECTION};
 use reference::table::{self, Slot, SlotNumber, FREE};
-use reference::{connection, header, refusal, scheduler, segment, weights, State, PLACES};
+use reference::{connection, header, refusal, scheduler, segment, State};
 
 /// A finished connection that a SYN meets: its slot, and state and row once the clock is accepted.
 struct Met {
@@ -28,7 +28,7 @@ fn met(call: &Call, state: &State, row: &[u32]) -> Option<Met> {
 }
 
 /// The reference with a mistake made after each call that has met a finished connection.
-struct AfterMeeting(fn(Met, Told, &State, &mut [u32]));
+struct AfterMeeting(fn(Met, Told, &mut State, &mut [u32]));
 
 impl Side for AfterMeeting {
     fn make(&self, call: &Call, state: &mut State, row: &mut [u32], packet: &mut [u8]) -> Told {
@@ -58,6 +58,19 @@ fn the_old_slot_taken_although_a_lower_one_is_free() {
 }
 
 #[test]
+fn the_old_one_taken_off_by_14() {
+    let complaint = is_found(
+        &AfterMeeting(|met, told, state, row| {
+            if told.refusal == u32::from(refusal::NO_WEIGHT) {
+                connection::take_off(state, row, met.old);
+            }
+        }),
+        8,
+    );
+    assert!(complaint.starts_with("state: server"), "{complaint}");
+}
+
+#[test]
 fn the_old_one_refreshed_by_14() {
     let complaint = is_found(
         &AfterMeeting(|met, told, state, row| {
@@ -72,12 +85,6 @@ fn the_old_one_refreshed_by_14() {
     assert!(complaint.starts_with("row"), "{complaint}");
 }
 
-fn put_weights(state: &mut State, given: [u16; PLACES]) {
-    let places = state.servers.iter_mut().zip(given);
-    places.for_each(|(server, weight)| server.weight = weight);
-    weights::make_true(state);
-}
-
 /// Picks before the old connection is taken off.
 struct EarlyPick;
 
@@ -87,19 +94,13 @@ impl Side for EarlyPick {
         let picks_by_count = |Met { state, .. }: &Met| {
             state.service.scheduler >= LEAST_CONNECTION && state.largest_weight > 0
         };
-        let early = met.filter(picks_by_count).map(|Met { state, .. }| scheduler::pick(&state));
-        let given = state.servers.map(|server| server.weight);
-        if let Some((picked, _)) = early {
-            // no other can be picked then
-            let mut alone = [0; PLACES];
-            alone[picked.0] = 1;
-            put_weights(state, alone);
+        match met.filter(picks_by_count) {
+            Some(met) => {
+                let (early, _) = scheduler::pick(&met.state);
+                make_picking(early.0, call, state, row, packet)
+            }
+            None => Reference.make(call, state, row, packet),
         }
-        let told = Reference.make(call, state, row, packet);
-        if early.is_some() {
-            put_weights(state, given);
-        }
-        told
     }
 }
 

@@ -24,8 +24,7 @@ fn the_walk_moved_before_the_table_is_found_full() {
     is_found(
         &Mistaken(|made, told| {
             if told.refusal == 13 && made.state.service.scheduler == 1 {
-                let n = i64::from(made.state.service.servers);
-                made.state.walk.place = (made.state.walk.place + 1) % n;
+                made.step_on();
             }
             told
         }),

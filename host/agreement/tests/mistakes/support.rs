@@ -5,7 +5,7 @@ use agreement::report;
 use agreement::run::{calls_of, run};
 use agreement::shorten::{replay, shorten};
 use agreement::sides::{Reference, Side};
-use reference::State;
+use reference::{weights, State, PLACES};
 
 /// What a call is handed and, once it is made, what it has left.
 pub struct Made<'a> {
@@ -36,12 +36,46 @@ impl Made<'_> {
         self.before.service.protocol == 6
     }
 
+    /// The walk goes on to the next number in the ring, whatever stands there.
+    pub fn step_on(&mut self) {
+        let n = i64::from(self.state.service.servers);
+        self.state.walk.place = (self.state.walk.place + 1) % n;
+    }
+
     pub fn put_sum(&mut self, at: usize, wrong: [u8; 2], written: [u8; 2]) {
         let at = self.header() + at;
         if self.packet[at..at + 2] == wrong {
             self.packet[at..at + 2].copy_from_slice(&written);
         }
     }
+}
+
+pub fn refused(refusal: u32) -> Told {
+    Told { refusal, number: 0, change: 0 }
+}
+
+fn put_weights(state: &mut State, given: [u16; PLACES]) {
+    let places = state.servers.iter_mut().zip(given);
+    places.for_each(|(server, weight)| server.weight = weight);
+    weights::make_true(state);
+}
+
+/// The reference's call while no other server can be picked.
+pub fn make_picking(
+    server: usize,
+    call: &Call,
+    state: &mut State,
+    row: &mut [u32],
+    packet: &mut [u8],
+) -> Told {
+    let given = state.servers.map(|server| server.weight);
+    let mut alone = [0; PLACES];
+    // the walk's level stays in its range
+    alone[server] = state.largest_weight.max(1);
+    put_weights(state, alone);
+    let told = Reference.make(call, state, row, packet);
+    put_weights(state, given);
+    told
 }
 
 /// Runs it until the mistake is found; the shortened case must fail again when it is drawn anew.
