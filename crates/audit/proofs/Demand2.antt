@@ -26,7 +26,6 @@ use Rattle.table.specs.declared.slot.Slot.{Slot}
 use Rattle.table.specs.declared.slot.SlotNo.{SlotNo}
 use Rattle.table.specs.Slots.{slots, words, slotAt}
 use Rattle.table.specs.Find.{ofClient}
-use Rattle.table.specs.Changes.{freed}
 use Rattle.table.specs.Expire.{isIdle}
 use Rattle.table.proofs.Rows.{slots-words}
 use Rattle.table.proofs.Finding.{lowest-found}
@@ -40,7 +39,7 @@ use Rattle.director.specs.declared.segment.Sender.{Sender}
 use Rattle.director.specs.declared.segment.Segment.{Segment}
 use Rattle.director.specs.declared.segment.Seen.{Seen}
 use Rattle.director.specs.declared.decide.Decision.{Decision}
-use Rattle.director.specs.State.{withServers, withOneLess, lent, Result, inWords, refusal}
+use Rattle.director.specs.State.{withServers, lent, Result, inWords, refusal}
 use Rattle.director.specs.Judge.{soundOf}
 use Rattle.director.specs.Tick.{settled, settledSlots}
 use Rattle.director.specs.Segment.{onReading, segmentRead}
@@ -50,8 +49,7 @@ use Rattle.director.specs.Packets.{routed, onClock, onSeen, packetHeld, packetO
 use Rattle.director.proofs.Sound.{Sound, sound-parts}
 use Rattle.director.proofs.Settled.{settled-sound}
 use Rattle.director.proofs.Segments.{read-from}
-use Rattle.director.proofs.Ending.{ended-parts}
-use Rattle.director.proofs.Decisions.{Its, Opening, Grounded, decided-grounded}
+use Rattle.director.proofs.Decisions.{Its, Grounded, decided-grounded}
 use Rattle.director.proofs.Carried.{its-slot}
 use Rattle.audit.specs.Calls.{EndsFit}
 use Rattle.audit.specs.Claim.{isOpened}

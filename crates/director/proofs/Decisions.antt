@@ -143,6 +143,11 @@ pub somebody : (d : Director) (row : List ℕ) → Sound d row → SomeWeight (d
     → IsPick (d .service .scheduler) (d .servers) (d .service .servers) (d .walk) (nextPick d)
 somebody d row sound some = rw (sound .weights) (pick-found (d .service .scheduler) (d .servers) (d .service .servers) (d .walk) some (sound .range))
 
+-- what is made of the pick p, where the largest weight that is held is above 0
+pub on-pick : (d : Director) (make : ServerNo → Walk → Decision) (p : Pick) → noneWeighs (d .weights) ≡ false → p ≡ nextPick d
+    → make (p .server) (p .walk) ≡ onWeights d make
+on-pick d make p some picked = rw (picked, some)
+
 -- an opening in a sound state, whatever is shown of it and made of it
 module _ (d : Director) (row : List ℕ) (sound : Sound d row) (Goal : Decision → Type 0) (make : SlotNo → ServerNo → Walk → Decision)
     (weightless : Goal (Decision.Refuse Refusal.NoWeight)) (full : firstFrom isUnused 0 (slots row) ≡ Found.Nothing → Goal (Decision.Refuse Refusal.TableFull))

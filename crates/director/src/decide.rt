@@ -104,8 +104,7 @@ fn next_pick(director: Director) -> Pick
 fn decide_free(director: Director, k: SlotNo) -> Decision
     ensures { λ r. ⌜ r ≡ onWeights director (Decision.Open k) ⌝ }
 {
-    let held = director.weights;
-    if none_weighs(held) {
+    if none_weighs(director.weights) {
         return Decision::Refuse(Refusal::NoWeight);
     }
     let Pick { server, walk } = next_pick(director);
@@ -120,8 +119,7 @@ fn decide_renewal(director: Director, row: &[u32], k: SlotNo) -> Decision
 {
     let ended = with_one_less(director, server_no_at(row, k));
     let free = find_free_with(row, k);
-    let held = ended.weights;
-    if none_weighs(held) {
+    if none_weighs(ended.weights) {
         return Decision::Refuse(Refusal::NoWeight);
     }
     let Pick { server, walk } = next_pick(ended);

@@ -9,7 +9,7 @@ use native.Mathlib.Nat.{le-max-left, le-max-right, le-trans, eq-or-lt-of-le, eq-
 use borrow.Author.Tests.{eq-eqb, ne-eqb, eqb-true, eqb-false}
 use borrow.Author.Count.{below-none, below-more}
 use Rattle.servers.specs.Servers.{weightAt}
-use Rattle.scheduler.specs.Weights.{largestOf, weightsOf, noWeight}
+use Rattle.scheduler.specs.Weights.{largestOf, noWeight}
 use Rattle.servers.specs.declared.Server.{Server}
 use Rattle.scheduler.specs.Laws.{LargestLaw, EachZero, SomeWeight, NoWeightLaw}
 use Rattle.lists.proofs.Folds.{fold-holds}

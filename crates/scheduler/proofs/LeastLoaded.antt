@@ -1,23 +1,23 @@
 -- Schedulers 3 and 4 find the least loaded server, and of equals the one of the lowest number. Assumes nothing.
-use mathlib.Core.Bool.{true, false}
+use mathlib.Core.Bool.{Bool, true, false, cond}
 use mathlib.Core.List.{List}
 use mathlib.Core.Logic.{⊎-elim}
-use mathlib.Core.Path.{_≡_}
-use Prim.Native.Nat.{ℕ, _+_, _*_, _<_, _≤_}
+use mathlib.Core.Path.{_≡_, refl, ap}
+use Prim.Native.Nat.{ℕ, zero, suc, _+_, _-_, _*_, _<_, _≤_}
 use native.Mathlib.Nat.{le-refl, le-of-lt, eq-or-lt-of-le, lt-of-lt-of-le, lt-of-mul-lt-mul-right, mul-le-mul-right, mul-lt-mul-of-pos-right, mul-right-comm}
 use native.Mathlib.Omega.{arith}
 use lib.Dec.{eqb}
-use borrow.Author.Count.{below-none, below-more}
+use borrow.Author.Count.{below-more}
 use borrow.Author.Tests.{ltb-true, ltb-false, lt-ltb, le-ltb, eqb-true, eqb-false}
 use Rattle.servers.specs.Servers.{serverAt, weightAt}
-use Rattle.scheduler.specs.LeastLoaded.{loadBeside, lighterBy, against, betterOf, pickLeast}
+use Rattle.scheduler.specs.LeastLoaded.{loadBeside, lighterBy, against, betterOf, leastOf, pickLeast}
 use Rattle.scheduler.specs.Scheduler.{holding}
-use Rattle.scheduler.specs.Laws.{SomeWeight, IsLeast, LeastLaw, Serves, Picking}
+use Rattle.scheduler.specs.Laws.{SomeWeight, IsLeast, LeastLaw, Picking}
 use Rattle.servers.specs.declared.Server.{Server}
 use Rattle.servers.specs.declared.ServerNo.{ServerNo}
 use Rattle.scheduler.specs.declared.least_loaded.Load.{Load}
 use Rattle.lists.proofs.Cases.{by-test}
-use Rattle.lists.proofs.Folds.{fold-holds}
+use Rattle.lists.proofs.Folds.{fold-none, fold-next, fold-holds}
 
 -- b / wb < c / wc and c / wc ≤ a / wa give b / wb < a / wa, in cross products
 crossed : (a wa b wb c wc : ℕ) → 0 < wa → b * wc < c * wb → c * wa ≤ a * wc → b * wa < a * wb
@@ -122,6 +122,20 @@ module _ (by : Load) (s : List Server) where
       let z = eqb-true (weightAt s k) 0 e in
       (omega (arith, best .0), λ some. kept k (r .0) (best .1 (fewer k z (some .0) (some .1) (some .2))) (λ v. absurd (omega arith))))
       (λ e. compared k r best (omega (arith, eqb-false (weightAt s k) 0 e)))
+
+-- a choice of two that are the same
+same-choice : {A : Type 0} (t : Bool) (x : A) → cond t x x ≡ x
+same-choice true x = refl
+same-choice false x = refl
+
+-- server 0 is the best of one, so a loop may begin with server 1
+pub least-one : (by : Load) (s : List Server) → leastOf by s 1 ≡ record { 0 = 0 }
+least-one by s = rw (fold-next _ _ 0, fold-none, same-choice, same-choice, same-choice)
+
+-- a loop from 1 on that has come to n or past it
+pub least-done : (by : Load) (s : List Server) (n i : ℕ) → 1 ≤ i → i - 1 ≤ n - 1 → n ≤ i → leastOf by s i ≡ leastOf by s n
+least-done by s zero i above most done = let one : i ≡ 1 = omega arith in rw (one, least-one by s, fold-none)
+least-done by s (suc n) i above most done = ap (leastOf by s) (omega arith)
 
 pub least-found : LeastLaw
 least-found by s n = fold-holds (betterOf by s) (record { 0 = 0 }) (Best by s) (le-refl 0, λ some. absurd (omega (arith, some .1))) (step by s) n .1

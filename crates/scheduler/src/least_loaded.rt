@@ -47,12 +47,12 @@ fn better(by: Load, servers: [Server; 64], best: ServerNo, no: ServerNo) -> Serv
     if lighter(by, server, held) { no } else { best }
 }
 
-// The least loaded of the first n servers, of those whose weight is above 0.
+// The least loaded of the first n servers, of those whose weight is above 0; server 0 is not held against itself.
 pub fn least(by: Load, servers: [Server; 64], n: u32) -> ServerNo
     ensures { λ r. ⌜ r ≡ leastOf by servers n ⌝ }
 {
     let mut best = ServerNo(0);
-    for i in 0..n {
+    for i in 1..n {
         best = better(by, servers, best, ServerNo(i));
     }
     best

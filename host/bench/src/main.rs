@@ -5,9 +5,10 @@
 //! call with REPS packets, kept, outbound or opening. With `--one-port` each client has an address of its own and all have one port,
 //! instead of few addresses with many ports; with `--first` the packets are of the client in the first slot, not in the last that is
 //! used; with `--free=N` the last N slots are free and not one; with `--scheduler=N` the scheduler is N and not 1; with
-//! `--worst-weights` the weights aren't 1 but such that their greatest common divisor takes longest. Count two runs with different
-//! REPS under callgrind: their difference is the calls alone (the script `bench` at the top of the repository does that). With
-//! `--time` it prints nanoseconds a call or a sum instead, of the first three sides.
+//! `--worst-weights` the weights aren't 1 but such that their greatest common divisor takes longest, with `--no-weight` all are 0, so
+//! that an opening gets 14. Count two runs with different REPS under callgrind: their difference is the calls alone (the script
+//! `bench` at the top of the repository does that). With `--time` it prints nanoseconds a call or a sum instead, of the first three
+//! sides.
 
 mod many;
 mod plain;
@@ -21,7 +22,7 @@ use std::time::Instant;
 const USAGE: &str = "usage: bench library|reference|plain kept|outbound|opening|renewal|tick SLOTS SERVERS REPS [FLAG..]
        bench serve|burst kept|outbound|opening SLOTS SERVERS PACKETS [FLAG..]
        bench library|reference|plain sum BYTES REPS [--time]
-flags: --time --one-port --first --free=N --scheduler=N --worst-weights";
+flags: --time --one-port --first --free=N --scheduler=N --worst-weights --no-weight";
 
 fn main() {
     let words: Vec<String> = std::env::args().skip(1).collect();
@@ -72,7 +73,12 @@ fn plan(slots: usize, servers: usize, flags: &[&str]) -> Plan {
         clients: if given("--one-port") { Clients::OnePort } else { Clients::FewAddresses },
         first: given("--first"),
         scheduler: value("--scheduler=").unwrap_or(1) as u8,
-        weights: if given("--worst-weights") { Weights::Worst } else { Weights::Equal },
+        weights: match (given("--worst-weights"), given("--no-weight")) {
+            (false, false) => Weights::Equal,
+            (true, false) => Weights::Worst,
+            (false, true) => Weights::None,
+            (true, true) => usage(),
+        },
     }
 }
 

@@ -188,6 +188,8 @@ pub enum Weights {
     Equal,
     /// Two in turn with which Euclid's algorithm takes its most steps: the last neighbours of Fibonacci's below 65,536.
     Worst,
+    /// All 0.
+    None,
 }
 
 impl Weights {
@@ -195,6 +197,7 @@ impl Weights {
         match self {
             Weights::Equal => 1,
             Weights::Worst => [46_368, 28_657][server % 2],
+            Weights::None => 0,
         }
     }
 }

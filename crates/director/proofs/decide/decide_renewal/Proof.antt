@@ -16,6 +16,7 @@ use Rattle.director.specs.declared.state.Director.{Director}
 use Rattle.director.specs.declared.decide.Decision.{Decision}
 use Rattle.director.specs.State.{withOneLess}
 use Rattle.director.specs.Decide.{onWeights, onRenewal}
+use Rattle.director.proofs.Decisions.{on-pick}
 use Rattle.director.proofs.decide.decide_renewal.Statement.{statement}
 use Rattle.director.proofs.decide.decide_renewal.Tie as tie
 
@@ -29,7 +30,7 @@ with-one-less-requires c κs = rw (c .server-no-at .ensures) (c .before .before 
 
 returns : tie.Need-returns
 returns c =
-    let f = c .before .before .before in
+    let f = c .before .before in
     let a = f .before .before .before .before .args in
     rw (sym (c .before .none-weighs .ensures) ∙ c .if1 .taken) at
     (by-weights (a .director) _ (slots (now (a .row))) (a .k) _ _
@@ -38,11 +39,12 @@ returns c =
 returns-2 : tie.Need-returns-2
 returns-2 c =
     let b = c .before .before .before in
-    let f = b .before .before .before in
+    let f = b .before .before in
     let a = f .before .before .before .before .args in
-    rw (sym (b .before .none-weighs .ensures) ∙ b .if1 .left, ← (c .before .before .next-pick .ensures)) at
-    (by-weights (a .director) _ (slots (now (a .row))) (a .k) _ _
-    (f .before .before .server-no-at .ensures) (f .before .with-one-less .ensures) (f .find-free-with .ensures))
+    let ended = f .before .with-one-less .result in
+    on-pick ended (Decision.Renew (a .k) (f .find-free-with .result)) _ (sym (b .before .none-weighs .ensures) ∙ b .if1 .left) (c .before .before .next-pick .ensures)
+    ∙ by-weights (a .director) ended (slots (now (a .row))) (a .k) _ _
+    (f .before .before .server-no-at .ensures) (f .before .with-one-less .ensures) (f .find-free-with .ensures)
 
 pub decide-renewal-spec : {M : Type 1} → statement M
 decide-renewal-spec =
