@@ -44,7 +44,7 @@ belongs (Sender.Server source) i = eqb (source .0) (i .0)
 abbrev pub nextPick : Director → Pick
 nextPick d = pickOf (d .service .scheduler) (d .servers) (d .service .servers) (d .weights) (d .walk)
 
--- 14 where every weight is 0, which "is decided before the walk moves" (SCOPE 10.2), so before the pick; else what is made of the pick
+-- 14 "is a test of its own, before the pick: the largest weight in the state (2.12) is 0" (SCOPE 10.14); else what is made of the pick
 abbrev pub onWeights : Director → (ServerNo → Walk → Decision) → Decision
 onWeights d make = cond (noneWeighs (d .weights)) (Decision.Refuse Refusal.NoWeight) (make (nextPick d .server) (nextPick d .walk))
 

@@ -123,7 +123,7 @@ WeightsLeft =
 abbrev pub NoWeightExactly : Type 0
 NoWeightExactly = (d : Director) (row : List ℕ) → soundOf d row ≡ true → (noneWeighs (d .weights) ≡ true) ↔ EachZero (d .servers) (d .service .servers)
 
--- "In any sound state with a weight above 0 the pick of schedulers 1 to 4 answers a server" (SCOPE 10.13)
+-- "In any sound state with a weight above 0 the pick of schedulers 1 to 4 always answers a server" (SCOPE 10.13)
 abbrev pub SomebodyLaw : Type 0
 SomebodyLaw =
     (d : Director) (row : List ℕ) → soundOf d row ≡ true → SomeWeight (d .servers) (d .service .servers)

@@ -84,7 +84,7 @@ module _ (by : Load) (s : List Server) where
         first = p .first;
       }
 
-  -- where server k weighs nothing, another does that weighs
+  -- where server k weighs nothing, one that weighs is among the k before it
   fewer : (k : ℕ) → weightAt s k ≡ 0 → (j : ℕ) → j < k + 1 → 0 < weightAt s j → SomeWeight s k
   fewer k w = below-more _ k (λ j h v. (j, h, v)) (λ v. absurd (omega arith))
 
