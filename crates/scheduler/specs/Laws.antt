@@ -7,7 +7,7 @@ use Prim.Native.Nat.{ℕ, zero, suc, _+_, _%_, _<_, _≤_, _∣_}
 use Rattle.servers.specs.Servers.{serverAt, weightAt, withWeight, withCount}
 use Rattle.servers.specs.declared.Server.{Server}
 use Rattle.servers.specs.declared.ServerNo.{ServerNo}
-use Rattle.scheduler.specs.Weights.{weightsGcd, largestOf, weightsOf, weightsAgree, noneWeighs, noWeight}
+use Rattle.scheduler.specs.Weights.{weightsGcd, largestOf, weightsOf, weightsAgree, noneWeighs}
 use Rattle.scheduler.specs.Ring.{afterIn, nextOf, ringOf}
 use Rattle.scheduler.specs.Scheduler.{Scheduler}
 use Rattle.scheduler.specs.RoundRobin.{roundRobin}
@@ -185,12 +185,6 @@ abbrev pub WeightLaw : Type 0
 WeightLaw =
     (k : ℕ) (s : List Server) (n i x : ℕ) (w : Walk) → inRange k s n w ≡ true
     → inRange k (withWeight s i x) n (afterWeight k w (weightAt s i) x) ≡ true
-
--- a count set to c changes neither the range nor the test for refusal 14
-abbrev pub CountLaw : Type 0
-CountLaw =
-    (s : List Server) (n i c : ℕ)
-    → (noWeight (withCount s i c) n ≡ noWeight s n) × ((k : ℕ) (w : Walk) → inRange k (withCount s i c) n w ≡ inRange k s n w)
 
 -- a walk in its range is at -1 or at one of the n servers
 abbrev pub PlaceLaw : Type 0
