@@ -100,7 +100,7 @@ fn next_pick(director: Director) -> Pick
     pick(service.scheduler, servers, service.servers, held, walk)
 }
 
-// A packet that would open a connection in the free slot `k`.
+// A packet that would open a connection in the free slot `k`: 14 is tested before the pick, so the walk is not moved by it.
 fn decide_free(director: Director, k: SlotNo) -> Decision
     ensures { λ r. ⌜ r ≡ onWeights director (Decision.Open k) ⌝ }
 {

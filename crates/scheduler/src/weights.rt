@@ -1,5 +1,5 @@
-// What weighted round-robin needs of all the weights: the largest, and the greatest common divisor. A state holds both, so that a pick
-// doesn't work them out.
+// What weighted round-robin and refusal 14 need of all the weights: the largest, and the greatest common divisor. A state holds both,
+// so that neither works them out.
 use servers::Server;
 use servers::ServerNo;
 ghost use mathlib.Core.Path.{_≡_};
