@@ -19,7 +19,7 @@
  *     state = answer.state;                                   // after each call, also after a refused one
  *     if (answer.refusal != NIDHAAGUF_ACCEPTED) ..
  *
- *     answer = nidhaaguf_inbound(state, row, packet, packet_length, seconds);
+ *     answer = nidhaaguf_inbound(state, row, 5 * 1024, packet, packet_length, seconds);
  *     state = answer.state;
  *     if (answer.refusal == NIDHAAGUF_ACCEPTED) ..            // send the packet: it is rewritten for server answer.number
  *
@@ -123,6 +123,21 @@ typedef struct {
 /* Words of a record. */
 #define NIDHAAGUF_WORDS_PER_RECORD 4
 
+/* Of a packet that a serve has taken. Five words, the form in which nidhaaguf_serve is lent them. */
+typedef struct {
+    uint32_t length;  /* the packet's bytes, which stand in the buffer behind those of the packet before */
+    uint32_t way;     /* which call it was given to: 0 inbound, 1 outbound */
+    uint32_t refusal; /* NidhaagufRefusal: 0 for accepted */
+    uint32_t server;  /* accepted: its connection's server; else 0 */
+    uint32_t change;  /* NidhaagufChange of an accepted packet; else 0 */
+} NidhaagufTraced;
+
+/* Words of such a record. */
+#define NIDHAAGUF_WORDS_PER_TRACED 5
+
+/* No IPv4 packet is longer: a serve reads on while so many bytes of its buffer are left. */
+#define NIDHAAGUF_LONGEST 65536
+
 /*
  * A serve's counters: first those of inbound packets, then those of outbound ones. NIDHAAGUF_COUNTER tells a counter's place:
  * way 0 inbound, 1 outbound; refusal and change as an answer has them. counters[NIDHAAGUF_COUNTER(1, 12, 0)] counts the
@@ -175,6 +190,12 @@ NIDHAAGUF_OFFSET_IS(NidhaagufRecord, length, 0);
 NIDHAAGUF_OFFSET_IS(NidhaagufRecord, refusal, 4);
 NIDHAAGUF_OFFSET_IS(NidhaagufRecord, server, 8);
 NIDHAAGUF_OFFSET_IS(NidhaagufRecord, change, 12);
+NIDHAAGUF_SIZE_IS(NidhaagufTraced, 20);
+NIDHAAGUF_OFFSET_IS(NidhaagufTraced, length, 0);
+NIDHAAGUF_OFFSET_IS(NidhaagufTraced, way, 4);
+NIDHAAGUF_OFFSET_IS(NidhaagufTraced, refusal, 8);
+NIDHAAGUF_OFFSET_IS(NidhaagufTraced, server, 12);
+NIDHAAGUF_OFFSET_IS(NidhaagufTraced, change, 16);
 NIDHAAGUF_SIZE_IS(NidhaagufServed, 816);
 NIDHAAGUF_OFFSET_IS(NidhaagufServed, state, 0);
 NIDHAAGUF_OFFSET_IS(NidhaagufServed, refusal, 800);
@@ -297,14 +318,30 @@ NidhaagufAnswer nidhaaguf_burst(NidhaagufState state, uint32_t *row, size_t row_
 /*
  * A tick at `clock`, then packets as they come: read from `descriptor` into `buffer`, taken as nidhaaguf_inbound or
  * nidhaaguf_outbound takes them at that clock (which of the two, as for a burst), and written back to it where they are
- * accepted; until a read gives nothing or `most` packets are taken. Each answer adds 1 to one of the 46 counters.
+ * accepted. Each answer adds 1 to one of the 46 counters, and each packet is told: packet k has the five words of the records
+ * from 5 k on (NidhaagufTraced), and its bytes stand in the buffer behind those of packet k - 1: rewritten, if it is accepted,
+ * and as it came, if not. Other words of the records stay as they are.
+ *
+ * It ends
+ * - when `most` packets are taken, or there is no whole record for the next: min(most, records_length / 5) packets;
+ * - behind a packet after which fewer than 65,536 bytes of the buffer are left, so that no IPv4 packet is cut (a first one is
+ *   read whatever the buffer's length: lend 65,536 bytes and what so many packets take);
+ * - behind a packet that is refused with the number `stop`, for a caller that wants to know at once; 0 for none;
+ * - when a read gives 0 bytes or fails, a signal's EINTR included. errno is then that read's; set it to 0 before the call to
+ *   tell 0 bytes from an error (where packets were unsent, it may be the error of a write). A call that ended for another
+ *   reason has made no such read.
+ *
+ *     static uint8_t         buffer[NIDHAAGUF_LONGEST + 256 * 2048];
+ *     static NidhaagufTraced records[256];
+ *     static uint64_t        counters[NIDHAAGUF_COUNTERS];
+ *     served = nidhaaguf_serve(device, state, row, 5 * 1024, buffer, sizeof buffer, (uint32_t *)records, 5 * 256, counters,
+ *                              seconds, 256, 0);
  *
  * - The descriptor: one read gives one packet, from the first byte of its IPv4 header on, and one write takes one. A TUN
- *   device without packet information (IFF_NO_PI) does so, and a datagram socket. A packet longer than the buffer is cut by
- *   the read, and then refused with 6.
- * - It waits where the descriptor waits: nidhaaguf_serve returns when a read gives 0 bytes or fails, a signal's EINTR
- *   included. errno is then that read's; set it to 0 before the call to tell an end from an error. With taken == most no such
- *   read was made. A signal that comes just before the read is not seen by it: repeat it until the call has returned.
+ *   device without packet information (IFF_NO_PI) does so, and a datagram socket. A packet longer than the buffer's rest is cut
+ *   by the read: refused with 6, unless what was cut off lies behind its total length.
+ * - It waits where the descriptor waits. A signal that comes just before the read is not seen by it: repeat it until the call
+ *   has returned.
  * - The clock stands still meanwhile: packets of a long wait are taken at the clock of its beginning.
  * - A write that fails makes its packet one of `unsent`; the packet has been taken, and its connection stands as if it had been
  *   sent. Where a write may raise SIGPIPE, ignore that signal.
@@ -312,8 +349,8 @@ NidhaagufAnswer nidhaaguf_burst(NidhaagufState state, uint32_t *row, size_t row_
  * A refused tick reads nothing and changes nothing: the state comes back as it came. Refusals 15, 11.
  */
 NidhaagufServed nidhaaguf_serve(int32_t descriptor, NidhaagufState state, uint32_t *row, size_t row_length,
-                                uint8_t *buffer, size_t buffer_length, uint64_t *counters /* 46 */,
-                                uint32_t clock, uint32_t most);
+                                uint8_t *buffer, size_t buffer_length, uint32_t *records, size_t records_length,
+                                uint64_t *counters /* 46 */, uint32_t clock, uint32_t most, uint32_t stop);
 
 #ifdef __cplusplus
 }

@@ -1,11 +1,12 @@
 -- A call that takes many packets leaves what the single calls leave that it stands for, so demand 3 holds of runs with such calls. Assumes nothing.
-use Prim.Native.Nat.{ℕ, _<_}
+use Prim.Native.Nat.{ℕ, _+_, _<_}
 use mathlib.Core.Bool.{Bool, true, false}
 use mathlib.Core.List.{List, [], _∷_, _++_}
 use mathlib.Core.Logic.{⊎-elim}
 use mathlib.Core.Path.{_≡_, refl, sym, ap, subst, _∙_}
 use native.Mathlib.Omega.{arith}
 use lib.Dec.{ltb}
+use lib.ListN.{length}
 use Rattle.lists.proofs.Cases.{truth, by-test}
 use Rattle.lists.proofs.Folds.{fold-none}
 use Rattle.checksum.specs.Ones.{Bytes}
@@ -23,11 +24,12 @@ use Rattle.serving.specs.Serve.{Standing, onceServed, servedBy, AllBytes, after
 use Rattle.serving.specs.Burst.{Burst, packetsIn, packetAt, packetsBelow, toldAt, bursting, burstOf, burstCallOf}
 use Rattle.serving.proofs.Records.{burst-told}
 use Rattle.serving.proofs.Standings.{none-served}
+use Rattle.serving.proofs.Traces.{serve-told}
 use Rattle.serving.proofs.Turns.{burst-served, burst-bytes}
 use Rattle.audit.specs.Calls.{Call, setUp, tick, packet, AllFit, State, called, next, after, recordOf}
 use Rattle.audit.specs.Book.{bookOf}
 use Rattle.audit.specs.Claim.{Claim}
-use Rattle.audit.specs.Many.{Step, one, burst, serve, StepFits, AllStepsFit, packetsTaken, left, packetCalls, tickAndPackets, callsOf, leftBy, callsIn, Demand3Many, RecordsTell}
+use Rattle.audit.specs.Many.{Step, one, burst, serve, StepFits, AllStepsFit, packetsTaken, left, packetCalls, tickAndPackets, callsOf, leftBy, callsIn, Demand3Many, RecordsTell, TracesTell}
 use Rattle.audit.proofs.Demand3.{demand3}
 
 -- 1. Packets one after another
@@ -84,7 +86,7 @@ tick-service d row now =
 
 module _ (s : State) (now : ℕ) where
   abbrev ticked : Standing
-  ticked = afterTick (s .director) (s .row) [] now
+  ticked = afterTick (s .director) (s .row) [] [] now
 
   ticked-at : isAccepted (tickOf (s .director) (s .row) now .answer) ≡ true → At (s .director .service .address) now (passing ticked)
   ticked-at accepted =
@@ -108,7 +110,7 @@ module _ (s : State) (now : ℕ) where
       let b = bursting (ticked .director) (ticked .row) packets records in
       ⊎-elim
       (λ (e : isAccepted (tickOf (s .director) (s .row) now .answer) ≡ true).
-      let (director, row) = burst-served b [] (packetsIn packets records) (omega arith) in
+      let (director, row) = burst-served b [] [] (packetsIn packets records) (omega arith) in
       rw (e, director, row))
       (λ (e : isAccepted (tickOf (s .director) (s .row) now .answer) ≡ false). rw (e, fold-none, none-served ticked))
       (truth (isAccepted (tickOf (s .director) (s .row) now .answer)))
@@ -180,7 +182,7 @@ module _ (s : State) (packets records : List ℕ) (now : ℕ) (bytes : Bytes pac
   -- it is what the burst has then
   answer-met : (k : ℕ) → k < packetsIn packets records → let p = packetAt packets records k in
       takenOf (burstOf start k .director) (burstOf start k .row) p .answer ≡ takenOf (met-by k .director) (met-by k .row) p .answer
-  answer-met k h = let (director, row) = burst-served start [] k (omega (arith, h)) in rw (director, row)
+  answer-met k h = let (director, row) = burst-served start [] [] k (omega (arith, h)) in rw (director, row)
 
   -- and the single calls too
   answer-called : (k : ℕ) → let p = packetAt packets records k in
@@ -202,3 +204,19 @@ module _ (s : State) (packets records : List ℕ) (now : ℕ) (bytes : Bytes pac
 
 pub records-tell : RecordsTell
 records-tell s packets records now k bytes accepted h = tells s packets records now bytes accepted k h
+
+-- 5. The records of a serve
+
+none-before : (n : ℕ) → 0 + n ≡ n
+none-before n = omega arith
+
+pub traces-tell : TracesTell
+traces-tell s counters records now ps p qs bytes accepted h =
+    let address = s .director .service .address in
+    let start = afterTick (s .director) (s .row) counters records now in
+    let met = servedBy start ps in
+    let a = served-at address now ps start bytes (ticked-at s now accepted) in
+    let answered : takenOf (met .director) (met .row) p .answer ≡ called (after s (tick now ∷ packetCalls address now ps)) (packet (wayOf address p) p now) .answer =
+    subst (λ (t : State). takenOf (met .director) (met .row) p .answer ≡ called t (packet (wayOf address p) p now) .answer)
+    (served-called address now ps start bytes (ticked-at s now accepted)) (once-answered address now met p a) in
+    rw (none-before (length ps), answered, a .virtual) at (serve-told start ps p qs (rw (none-before (length ps)) h))

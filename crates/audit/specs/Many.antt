@@ -1,9 +1,10 @@
 -- Runs in which calls stand that take many packets: each stands for a tick and the packet calls that come after it. Assumes nothing: these
 -- are definitions.
-use Prim.Native.Nat.{ℕ, _<_}
+use Prim.Native.Nat.{ℕ, _+_, _*_, _<_}
 use mathlib.Core.Bool.{true, cond}
 use mathlib.Core.List.{List, [], _∷_, _++_, map}
 use mathlib.Core.Path.{_≡_}
+use lib.ListN.{length}
 use Rattle.checksum.specs.Ones.{Bytes}
 use Rattle.servers.specs.declared.Server.{Server}
 use Rattle.director.specs.declared.state.Service.{Service}
@@ -12,6 +13,7 @@ use Rattle.director.specs.State.{isAccepted}
 use Rattle.director.specs.Tick.{tickOf}
 use Rattle.serving.specs.Told.{toldBy}
 use Rattle.serving.specs.Way.{wayOf}
+use Rattle.serving.specs.Trace.{traceAt, traceOf}
 use Rattle.serving.specs.Serve.{AllBytes, servedBy, afterTick}
 use Rattle.serving.specs.Burst.{packetsIn, packetAt, packetsBelow, toldAt, burstCallOf}
 use Rattle.audit.specs.Calls.{Call, setUp, tick, packet, Fits, State, called, next, after, recordOf}
@@ -45,7 +47,7 @@ left s (burst packets records now) =
     let b = burstCallOf (s .director) (s .row) packets records now .left in
     record { director = b .director; row = b .row }
 left s (serve packets now) =
-    let t = servedBy (afterTick (s .director) (s .row) [] now) (packetsTaken s now packets) in
+    let t = servedBy (afterTick (s .director) (s .row) [] [] now) (packetsTaken s now packets) in
     record { director = t .director; row = t .row }
 
 -- the single calls that packets at a clock are given to, where the virtual address is this
@@ -87,3 +89,15 @@ RecordsTell =
     let before = after s (tick now ∷ packetCalls address now (packetsBelow packets records k)) in
     let p = packetAt packets records k in
     toldAt (burstCallOf (s .director) (s .row) packets records now .left .records) k ≡ toldBy (called before (packet (wayOf address p) p now) .answer)
+
+-- The records of a serve tell its packets: of each its length, its way and the answer to the single call of it, after the tick and the packets
+-- before it
+abbrev pub TracesTell : Type 0
+TracesTell =
+    (s : State) (counters records : List ℕ) (now : ℕ) (ps : List (List ℕ)) (p : List ℕ) (qs : List (List ℕ)) → AllBytes ps
+    → isAccepted (tickOf (s .director) (s .row) now .answer) ≡ true
+    → 5 * length ps + 4 < length records
+    → let address = s .director .service .address in
+    let before = after s (tick now ∷ packetCalls address now ps) in
+    traceAt (servedBy (afterTick (s .director) (s .row) counters records now) (ps ++ p ∷ qs) .records) (length ps)
+    ≡ traceOf (length p) (wayOf address p) (toldBy (called before (packet (wayOf address p) p now) .answer))

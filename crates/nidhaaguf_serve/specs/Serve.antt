@@ -3,10 +3,12 @@ use Prim.Native.Nat.{ℕ, _≤_}
 use mathlib.Core.Bool.{false}
 use mathlib.Core.List.{List}
 use mathlib.Core.Path.{_≡_}
+use lib.ListN.{take}
 use Rattle.director.specs.declared.state.Director.{Director}
 use Rattle.director.specs.declared.state.Answer.{Answer}
 use Rattle.director.specs.State.{isAccepted}
 use Rattle.director.specs.Tick.{tickOf}
+use Rattle.serving.specs.Trace.{packetsTraced}
 use Rattle.serving.specs.Serve.{standing, Served as ServedBy, packetsAfter, afterTick}
 use Rattle.nidhaaguf.specs.declared.state.State.{State}
 use Rattle.nidhaaguf.specs.declared.reply.Reply.{Reply}
@@ -23,11 +25,13 @@ abbrev pub servedReply : State → Director → Answer → (taken unsent : ℕ) 
 servedReply given d a taken unsent = counting (replyOf given d a) taken unsent
 
 -- what serving came to: packets, as many as it says, none where the tick is refused, that the single calls one after another after the tick lead
--- from what it was handed to what it left; and nothing is read into the buffer then
-pub record ServedFrom (given : State) (row buffer counters : List ℕ) (clock most : ℕ) (r : Served) (row′ buffer′ counters′ : List ℕ) : Type 0 where
+-- from what it was handed to what it left: state, row, counters, the records of them, and up to some end the buffer, in which they stand one behind
+-- the other as they left; where the tick is refused the buffer is as it came
+pub record ServedFrom (given : State) (row buffer records counters : List ℕ) (clock most : ℕ) (r : Served) (row′ buffer′ records′ counters′ : List ℕ) : Type 0 where
   pub director : Director
-  pub few : r .taken ≤ packetsAfter (tickOf (decoded given) row clock .answer) most
+  pub end : ℕ
+  pub few : r .taken ≤ packetsAfter (tickOf (decoded given) row clock .answer) (packetsTraced records most)
   pub unread : isAccepted (tickOf (decoded given) row clock .answer) ≡ false → buffer′ ≡ buffer
   pub unsent : r .unsent ≤ r .taken
-  pub served : ServedBy (afterTick (decoded given) row counters clock) (standing director row′ counters′) (r .taken)
+  pub served : ServedBy (afterTick (decoded given) row counters records clock) (standing director row′ counters′ records′ (r .taken) (take end buffer′)) (r .taken)
   pub reply : r ≡ servedReply given director (tickOf (decoded given) row clock .answer) (r .taken) (r .unsent)

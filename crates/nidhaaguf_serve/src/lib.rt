@@ -23,27 +23,31 @@ pub struct Served {
 }
 
 // Moves the clock on, then takes packets from the descriptor and sends them on to it, each by the call that its destination asks for, until a
-// read gives nothing or `most` packets are taken.
+// read gives nothing, `most` packets are taken, a record or room for the longest packet is missing, or one is refused with `stop`.
 #[no_mangle]
 pub extern "C" fn nidhaaguf_serve(
     descriptor: i32,
     state: State,
     row: &mut [u32],
     buffer: &mut [u8],
+    records: &mut [u32],
     counters: &mut [u64; 46],
     clock: u32,
     most: u32,
+    stop: u32,
 ) -> Served
-    ensures { λ r. ⌜ ServedFrom state (now (row .entry)) (now (buffer .entry)) (now (counters .entry)) clock most r (now (row .exit)) (now (buffer .exit)) (now (counters .exit)) ⌝ }
+    ensures { λ r. ⌜ ServedFrom state (now (row .entry)) (now (buffer .entry)) (now (records .entry)) (now (counters .entry)) clock most r (now (row .exit)) (now (buffer .exit)) (now (records .exit)) (now (counters .exit)) ⌝ }
 {
     let serving = serve(
         descriptor,
         decode(state),
         row,
         buffer,
+        records,
         counters,
         clock,
         most,
+        stop,
     );
     let answer = serving.answer;
     let director = serving.director;

@@ -15,7 +15,9 @@ use Rattle.director.specs.Current.{Current}
 use Rattle.director.proofs.Keeping.{tick-leaves}
 use Rattle.director.proofs.Staying.{packet-stays, ticked-current}
 use Rattle.serving.specs.Way.{wayOf, takenOf}
+use Rattle.serving.specs.Told.{toldBy}
 use Rattle.serving.specs.Counters.{counted}
+use Rattle.serving.specs.Trace.{traced}
 use Rattle.serving.specs.Serve.{Standing, standing, onceServed, servedBy, AllBytes, Served, packetsAfter, afterTick}
 
 pub append-bytes : (ps qs : List (List ℕ)) → AllBytes ps → AllBytes qs → AllBytes (ps ++ qs)
@@ -49,13 +51,14 @@ served-then s t u n k m a b e =
     }
 
 -- one packet, from what its call says of it
-pub served-once : (d : Director) (row counters p : List ℕ) (o : Outcome) (row′ counters′ p′ : List ℕ) → Bytes p
+pub served-once : (d : Director) (row counters records p : List ℕ) (k : ℕ) (before : List ℕ) (o : Outcome) (row′ counters′ records′ p′ : List ℕ) → Bytes p
     → result o row′ p′ ≡ takenOf d row p
     → counters′ ≡ counted counters (wayOf (d .service .address) p) (o .answer)
-    → Served (standing d row counters) (standing (o .director) row′ counters′) 1
+    → records′ ≡ traced records k (length p) (wayOf (d .service .address) p) (toldBy (o .answer))
+    → Served (standing d row counters records k before) (standing (o .director) row′ counters′ records′ (k + 1) (before ++ p′)) 1
 unfolding servedBy
-served-once d row counters p o row′ counters′ p′ bytes e f =
-    record { packets = p ∷ []; bytes = (bytes, tt); number = refl; leads = rw (← e, f) }
+served-once d row counters records p k before o row′ counters′ records′ p′ bytes e f g =
+    record { packets = p ∷ []; bytes = (bytes, tt); number = refl; leads = rw (← e, f, g) }
 
 -- one packet leaves a current state
 pub taken-current : (d : Director) (row p : List ℕ) (o : Outcome) (row′ p′ : List ℕ) → Bytes p → Current d row → result o row′ p′ ≡ takenOf d row p
@@ -77,9 +80,9 @@ pub tick-current : (d : Director) (row : List ℕ) (clock : ℕ) (o : Outcome) (
     → isAccepted (o .answer) ≡ true → Current (o .director) row′
 tick-current d row clock o row′ e accepted = rw (← e) at (ticked-current d row clock (rw (← e) accepted)) .0
 
-pub tick-standing : (d : Director) (row counters : List ℕ) (clock : ℕ) (o : Outcome) (row′ : List ℕ) → result o row′ [] ≡ tickOf d row clock
-    → (o .answer ≡ tickOf d row clock .answer) × (standing (o .director) row′ counters ≡ afterTick d row counters clock)
-tick-standing d row counters clock o row′ e = rw (← e) (refl, refl)
+pub tick-standing : (d : Director) (row counters records : List ℕ) (clock : ℕ) (o : Outcome) (row′ : List ℕ) → result o row′ [] ≡ tickOf d row clock
+    → (o .answer ≡ tickOf d row clock .answer) × (standing (o .director) row′ counters records 0 [] ≡ afterTick d row counters records clock)
+tick-standing d row counters records clock o row′ e = rw (← e) (refl, refl)
 
 -- no packets change nothing
 pub served-nothing : (s t : Standing) (n : ℕ) → n ≤ 0 → Served s t n → t ≡ s
@@ -98,9 +101,9 @@ nothing-accepted (Answer.Passed i change) e = absurd (false≢true e)
 nothing-accepted (Answer.Refused why) e = refl
 
 -- serving whose tick changes nothing leaves all as it came
-pub served-back : (d : Director) (row counters : List ℕ) (now most : ℕ) (t : Standing) (n : ℕ) → let a = tickOf d row now .answer in n ≤ packetsAfter a most
-    → changesNothing a ≡ true → Served (afterTick d row counters now) t n → t ≡ standing d row counters
-served-back d row counters now most t n few nothing a =
+pub served-back : (d : Director) (row counters records : List ℕ) (now most : ℕ) (t : Standing) (n : ℕ) → let a = tickOf d row now .answer in n ≤ packetsAfter a most
+    → changesNothing a ≡ true → Served (afterTick d row counters records now) t n → t ≡ standing d row counters records 0 []
+served-back d row counters records now most t n few nothing a =
     let (same, lent) = tick-leaves d row now .back nothing in
     let none = rw (nothing-accepted (tickOf d row now .answer) nothing) at few in
-    rw (same, lent) at (served-nothing (afterTick d row counters now) t n none a)
+    rw (same, lent) at (served-nothing (afterTick d row counters records now) t n none a)

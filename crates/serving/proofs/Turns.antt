@@ -1,11 +1,10 @@
 -- Each packet of a burst is met as it was handed in, and the burst is the single calls one after another. Assumes nothing.
 use Prim.Native.Nat.{ℕ, zero, suc, _+_, _*_, _-_, _≤_, min}
 use mathlib.Core.List.{List, [], _∷_}
-use mathlib.Core.Logic.{_≢_}
 use mathlib.Core.Path.{_≡_, refl, sym, ap, subst, _∙_}
 use native.Mathlib.Omega.{arith}
-use lib.ListN.{length, getD, set, take, drop, length-drop}
-use lib.Seq.{drop-drop, length-take-le, getD-set-other}
+use lib.ListN.{length, take, drop, length-drop}
+use lib.Seq.{drop-drop, length-take-le}
 use Rattle.lists.specs.Fold.{foldBelow}
 use Rattle.lists.proofs.Below.{below-take, below-drop}
 use Rattle.checksum.specs.Ones.{Bytes}
@@ -14,6 +13,7 @@ use Rattle.serving.specs.declared.told.Told.{Told}
 use Rattle.serving.specs.Way.{wayOf, takenOf}
 use Rattle.serving.specs.Serve.{Standing, standing, onceServed, servedBy, AllBytes}
 use Rattle.serving.specs.Burst.{Burst, packetsIn, lengthOf, packetAt, packetsBelow, recorded, burstStep, burstOf}
+use Rattle.serving.proofs.Tells.{elsewhere}
 use Rattle.serving.proofs.Lengths.{packet-length}
 use Rattle.serving.proofs.Standings.{none-served, served-append, append-bytes}
 
@@ -24,15 +24,8 @@ pub record Ahead (b c : Burst) (k : ℕ) : Type 0 where
   pub bytes : (j : ℕ) → k ≤ j → drop (2048 * j) (c .packets) ≡ drop (2048 * j) (b .packets)
   pub lengths : (j : ℕ) → lengthOf (c .records) j ≡ lengthOf (b .records) j
 
--- writing an answer leaves every other word
-pub elsewhere : (records : List ℕ) (k : ℕ) (t : Told) (i : ℕ) → i ≢ 4 * k + 1 → i ≢ 4 * k + 2 → i ≢ 4 * k + 3 → getD (recorded records k t) i 0 ≡ getD records i 0
-elsewhere records k t i a b c =
-    getD-set-other (set (set records (4 * k + 1) (t .refusal)) (4 * k + 2) (t .number)) (4 * k + 3) i (t .change) 0 c
-    ∙ getD-set-other (set records (4 * k + 1) (t .refusal)) (4 * k + 2) i (t .number) 0 b
-    ∙ getD-set-other records (4 * k + 1) i (t .refusal) 0 a
-
 recorded-lengths : (records : List ℕ) (k : ℕ) (t : Told) (j : ℕ) → lengthOf (recorded records k t) j ≡ lengthOf records j
-recorded-lengths records k t j = ap (λ n. min n 2048) (elsewhere records k t (4 * j) (λ q. omega arith) (λ q. omega arith) (λ q. omega arith))
+recorded-lengths records k t j = ap (λ n. min n 2048) (elsewhere records (4 * k) t (4 * j) (λ q. omega arith) (λ q. omega arith) (λ q. omega arith))
 
 length-least : (records : List ℕ) (k : ℕ) → lengthOf records k ≤ 2048
 length-least records k = omega arith
@@ -102,16 +95,16 @@ unfolding servedBy
 one-served t p = refl
 
 -- a burst leaves the state and the row that its packets leave, served one after another
-pub burst-served : (b : Burst) (counters : List ℕ) (k : ℕ) → k ≤ packetsIn (b .packets) (b .records)
-    → SameState (burstOf b k) (servedBy (standing (b .director) (b .row) counters) (packetsBelow (b .packets) (b .records) k))
+pub burst-served : (b : Burst) (counters records : List ℕ) (k : ℕ) → k ≤ packetsIn (b .packets) (b .records)
+    → SameState (burstOf b k) (servedBy (standing (b .director) (b .row) counters records 0 []) (packetsBelow (b .packets) (b .records) k))
 unfolding foldBelow packetsBelow
-burst-served b counters zero h = rw (none-served (standing (b .director) (b .row) counters)) (refl, refl)
-burst-served b counters (suc k) h =
-    let s = standing (b .director) (b .row) counters in
+burst-served b counters records zero h = rw (none-served (standing (b .director) (b .row) counters records 0 [])) (refl, refl)
+burst-served b counters records (suc k) h =
+    let s = standing (b .director) (b .row) counters records 0 [] in
     let ps = packetsBelow (b .packets) (b .records) k in
     let p = packetAt (b .packets) (b .records) k in
     subst (SameState (burstStep (burstOf b k) k)) (sym (served-append s ps (p ∷ []) ∙ one-served (servedBy s ps) p))
-    (step-served (burstOf b k) (servedBy s ps) k p (met b k (omega (arith, h))) (burst-served b counters k (omega (arith, h))))
+    (step-served (burstOf b k) (servedBy s ps) k p (met b k (omega (arith, h))) (burst-served b counters records k (omega (arith, h))))
 
 pub burst-bytes : (packets records : List ℕ) → Bytes packets → (k : ℕ) → AllBytes (packetsBelow packets records k)
 unfolding packetsBelow

@@ -1,7 +1,7 @@
 -- Packets in one lent buffer, taken one after another. Assumes nothing: these are definitions.
 use Prim.Native.Nat.{ℕ, zero, suc, _+_, _*_, _/_, min}
 use mathlib.Core.List.{List, [], _∷_, _++_}
-use lib.ListN.{length, getD, set, take, drop}
+use lib.ListN.{length, getD, take, drop}
 use Rattle.lists.specs.Fold.{foldBelow}
 use Rattle.packet.specs.Bytes.{onPart}
 use Rattle.director.specs.declared.state.Director.{Director}
@@ -9,7 +9,7 @@ use Rattle.director.specs.declared.state.Answer.{Answer}
 use Rattle.director.specs.declared.state.Outcome.{Outcome}
 use Rattle.director.specs.Tick.{tickOf}
 use Rattle.serving.specs.declared.told.Told.{Told}
-use Rattle.serving.specs.Told.{toldBy}
+use Rattle.serving.specs.Told.{toldBy, toldBehind, toldIn}
 use Rattle.serving.specs.Way.{takenOf}
 use Rattle.serving.specs.Serve.{packetsAfter}
 
@@ -42,11 +42,11 @@ packetsBelow packets records (suc k) = packetsBelow packets records k ++ (packet
 
 -- the records with the answer to packet k
 abbrev pub recorded : (records : List ℕ) → ℕ → Told → List ℕ
-recorded records k t = set (set (set records (4 * k + 1) (t .refusal)) (4 * k + 2) (t .number)) (4 * k + 3) (t .change)
+recorded records k t = toldBehind records (4 * k) t
 
 -- what the records tell of packet k
 abbrev pub toldAt : (records : List ℕ) → ℕ → Told
-toldAt records k = record { refusal = getD records (4 * k + 1) 0; number = getD records (4 * k + 2) 0; change = getD records (4 * k + 3) 0 }
+toldAt records k = toldIn records (4 * k)
 
 -- packet k, of n bytes, by the single call that it is given to
 abbrev pub burstTaken : Burst → (k n : ℕ) → Burst

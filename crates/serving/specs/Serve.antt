@@ -1,7 +1,7 @@
 -- Packets served one after another at one clock. Assumes nothing: these are definitions.
-use Prim.Native.Nat.{ℕ}
+use Prim.Native.Nat.{ℕ, _+_}
 use mathlib.Core.Bool.{cond}
-use mathlib.Core.List.{List, [], _∷_}
+use mathlib.Core.List.{List, [], _∷_, _++_}
 use mathlib.Core.Path.{_≡_}
 use lib.ListN.{length}
 use Rattle.checksum.specs.Ones.{Bytes}
@@ -10,22 +10,29 @@ use Rattle.director.specs.declared.state.Answer.{Answer}
 use Rattle.director.specs.State.{isAccepted}
 use Rattle.director.specs.Tick.{tickOf}
 use Rattle.serving.specs.Way.{wayOf, takenOf}
+use Rattle.serving.specs.Told.{toldBy}
 use Rattle.serving.specs.Counters.{counted}
+use Rattle.serving.specs.Trace.{traced}
 
--- what packet calls leave behind: the state, the row and the counters
+-- what packet calls leave behind: the state, the row, the counters, the records of so many packets, and these packets, one behind the other
 pub record Standing : Type 0 where
   pub director : Director
   pub row : List ℕ
   pub counters : List ℕ
+  pub records : List ℕ
+  pub taken : ℕ
+  pub packets : List ℕ
 
-abbrev pub standing : Director → (row counters : List ℕ) → Standing
-standing d row counters = record { director = d; row = row; counters = counters }
+abbrev pub standing : Director → (row counters records : List ℕ) → ℕ → (packets : List ℕ) → Standing
+standing d row counters records taken packets = record { director = d; row = row; counters = counters; records = records; taken = taken; packets = packets }
 
 -- one packet, by the single call that it is given to
 abbrev pub onceServed : Standing → List ℕ → Standing
 onceServed s p =
     let r = takenOf (s .director) (s .row) p in
-    standing (r .director) (r .lent .table) (counted (s .counters) (wayOf (s .director .service .address) p) (r .answer))
+    let way = wayOf (s .director .service .address) p in
+    standing (r .director) (r .lent .table) (counted (s .counters) way (r .answer)) (traced (s .records) (s .taken) (length p) way (toldBy (r .answer))) (s .taken + 1)
+    (s .packets ++ r .lent .packet)
 
 -- packets one after another
 unfoldable pub servedBy : Standing → List (List ℕ) → Standing
@@ -49,5 +56,5 @@ abbrev pub packetsAfter : Answer → ℕ → ℕ
 packetsAfter a most = cond (isAccepted a) most 0
 
 -- what the tick leaves
-abbrev pub afterTick : Director → (row counters : List ℕ) → ℕ → Standing
-afterTick d row counters now = let t = tickOf d row now in standing (t .director) (t .lent .table) counters
+abbrev pub afterTick : Director → (row counters records : List ℕ) → ℕ → Standing
+afterTick d row counters records now = let t = tickOf d row now in standing (t .director) (t .lent .table) counters records 0 []

@@ -1,5 +1,7 @@
 -- An answer in numbers (SCOPE section 4). Assumes nothing: these are definitions.
-use Prim.Native.Nat.{ℕ}
+use Prim.Native.Nat.{ℕ, _+_}
+use mathlib.Core.List.{List}
+use lib.ListN.{getD, set}
 use Rattle.director.specs.declared.state.Answer.{Answer}
 use Rattle.director.specs.declared.state.Change.{Change}
 use Rattle.director.specs.State.{refusalNumber}
@@ -18,3 +20,11 @@ toldBy Answer.Done = record { refusal = 0; number = 0; change = 0 }
 toldBy (Answer.Number n) = record { refusal = 0; number = n; change = 0 }
 toldBy (Answer.Passed i change) = record { refusal = 0; number = i .0; change = changeNumber change }
 toldBy (Answer.Refused why) = record { refusal = refusalNumber why; number = 0; change = 0 }
+
+-- words with what an answer tells in the three behind a place
+abbrev pub toldBehind : List ℕ → ℕ → Told → List ℕ
+toldBehind words at t = set (set (set words (at + 1) (t .refusal)) (at + 2) (t .number)) (at + 3) (t .change)
+
+-- what the words behind a place tell
+abbrev pub toldIn : List ℕ → ℕ → Told
+toldIn words at = record { refusal = getD words (at + 1) 0; number = getD words (at + 2) 0; change = getD words (at + 3) 0 }

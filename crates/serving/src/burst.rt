@@ -2,6 +2,7 @@
 use crate::told::Told;
 use crate::told::is_accepted;
 use crate::told::told_by;
+use crate::told::write_told;
 use crate::way::way_of;
 use director::packets::take_current;
 use director::state::Carried;
@@ -45,10 +46,7 @@ fn write_record(records: &mut [u32], k: usize, told: Told)
     requires { ⌜ 4 * k + 3 < length (now records) ⌝ }
     ensures { λ _. ⌜ now (records .exit) ≡ recorded (now (records .entry)) k told ⌝ }
 {
-    let at = 4 * k;
-    records[at + 1] = told.refusal;
-    records[at + 2] = told.number;
-    records[at + 3] = told.change;
+    write_told(records, 4 * k, told);
 }
 
 // Takes packet `k`.

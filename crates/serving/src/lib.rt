@@ -2,4 +2,5 @@
 pub mod burst;
 pub mod counters;
 pub mod told;
+pub mod trace;
 pub mod way;

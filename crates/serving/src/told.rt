@@ -4,7 +4,9 @@ use director::state::Answer;
 use director::state::Change;
 ghost use mathlib.Core.Path.{_≡_};
 ghost use Rattle.director.specs.State.{isAccepted};
-ghost use Rattle.serving.specs.Told.{changeNumber, toldBy};
+ghost use lib.ListN.{length};
+ghost use Prim.Native.Nat.{_+_, _<_};
+ghost use Rattle.serving.specs.Told.{changeNumber, toldBy, toldBehind};
 
 // What an answer tells.
 pub struct Told {
@@ -65,4 +67,14 @@ pub fn is_accepted(answer: Answer) -> bool
         Answer::Passed(_, _) => true,
         Answer::Refused(_) => false,
     }
+}
+
+// Writes what an answer tells into the three words behind place `at`.
+pub fn write_told(words: &mut [u32], at: usize, told: Told)
+    requires { ⌜ at + 3 < length (now words) ⌝ }
+    ensures { λ _. ⌜ now (words .exit) ≡ toldBehind (now (words .entry)) at told ⌝ }
+{
+    words[at + 1] = told.refusal;
+    words[at + 2] = told.number;
+    words[at + 3] = told.change;
 }

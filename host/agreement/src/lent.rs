@@ -20,6 +20,15 @@ impl<T: Copy + PartialEq> Lent<T> {
         Lent { all, first, guard }
     }
 
+    /// Lends so many of one item, likewise.
+    pub fn filled(length: usize, item: T, first: usize, guard: T) -> Lent<T> {
+        let mut all = Vec::with_capacity(first + length + GUARD);
+        all.resize(first, guard);
+        all.resize(first + length, item);
+        all.resize(first + length + GUARD, guard);
+        Lent { all, first, guard }
+    }
+
     /// The part that is lent.
     pub fn part(&mut self) -> &mut [T] {
         let end = self.all.len() - GUARD;
@@ -45,6 +54,7 @@ mod tests {
 
     #[test]
     fn a_write_past_the_lent_part_is_seen() {
+        assert_eq!(Lent::filled(3, 1, 2, 9), Lent::new(&[1, 1, 1], 2, 9));
         let mut lent = Lent::new(&[1, 2, 3], 2, 9);
         lent.part()[2] = 4;
         assert_eq!(lent.clone().back(), Some(vec![1, 2, 4]));

@@ -22,18 +22,17 @@ pub fn served(scene: &mut Scene, packets: usize) -> u64 {
     for number in 0..packets {
         theirs.send(&scene.fresh_packet(number)).expect("the socket's queue takes so many packets");
     }
-    let mut buffer = vec![0; 65_536];
+    let mut buffer = vec![0; raw::LONGEST + 2_048 * packets];
+    let mut records = vec![raw::Traced::default(); packets];
     let mut counters = [0; raw::COUNTERS];
     let (descriptor, most) = (ours.as_fd(), packets as u32);
-    let served = raw::serve(
-        descriptor,
-        scene.state,
-        &mut scene.row,
-        &mut buffer,
-        &mut counters,
-        CLOCK,
-        most,
-    );
+    let lent = raw::LentToServe {
+        row: &mut scene.row,
+        buffer: &mut buffer,
+        records: raw::traced_words(&mut records),
+        counters: &mut counters,
+    };
+    let served = raw::serve(descriptor, scene.state, lent, CLOCK, most, 0);
     assert_eq!((served.refusal, served.taken, served.unsent), (0, most, 0));
     assert_eq!(counters[answered(scene.call).0], u64::from(most));
     served.taken.into()

@@ -2,7 +2,7 @@
 
 use crate::clock::Clock;
 use crate::counters::Counters;
-use nidhaaguf::{Director, Refusal, Served, Settings};
+use nidhaaguf::{Director, Refusal, Served, Settings, Trace};
 use std::fmt;
 use std::net::SocketAddrV4;
 use std::os::fd::AsFd;
@@ -79,11 +79,11 @@ impl Instance {
     pub fn serve(
         &mut self,
         device: impl AsFd,
-        buffer: &mut [u8],
+        trace: &mut Trace,
         most: u32,
     ) -> Result<Served, Refusal> {
         let (clock, counters) = (self.director.clock(), &mut self.counters);
-        let served = self.director.serve(device, buffer, &mut counters.packets, clock, most)?;
+        let served = self.director.serve(device, trace, &mut counters.packets, clock, most, None)?;
         counters.idle_removed += u64::from(served.removed);
         counters.write_failures += u64::from(served.unsent);
         Ok(served)

@@ -7,7 +7,7 @@
 
 use crate::instance::Instance;
 use crate::system::{signals, Waited};
-use nidhaaguf::End;
+use nidhaaguf::{End, Trace};
 use std::io::{self, ErrorKind, PipeReader, PipeWriter};
 use std::os::fd::{AsFd, BorrowedFd, OwnedFd};
 use std::sync::atomic::{AtomicBool, Ordering};
@@ -20,8 +20,6 @@ use std::time::Duration;
 const PACKETS_A_CALL: u32 = 256;
 /// Between two signals.
 const BETWEEN_SIGNALS: Duration = Duration::from_micros(200);
-/// The longest IPv4 packet, and so the longest that the device gives.
-const MOST_PACKET: usize = 65_536;
 
 /// The director as it comes back; an error says why the thread serves no more, and has ended.
 pub type Returned = (Instance, Result<(), String>);
@@ -104,10 +102,10 @@ struct Worker {
 
 impl Worker {
     fn run(self) {
-        let mut buffer = vec![0; MOST_PACKET];
+        let mut trace = Trace::new(PACKETS_A_CALL as usize);
         // until nobody lends any more
         for mut instance in &self.lent {
-            let served = self.serve(&mut instance, &mut buffer);
+            let served = self.serve(&mut instance, &mut trace);
             let has_failed = served.is_err();
             if self.returned.send((instance, served)).is_err() || has_failed {
                 return;
@@ -116,10 +114,10 @@ impl Worker {
     }
 
     /// Serves until the director is wanted, and for one call at least: so commands without a pause don't stop the packets.
-    fn serve(&self, instance: &mut Instance, buffer: &mut [u8]) -> Result<(), String> {
+    fn serve(&self, instance: &mut Instance, trace: &mut Trace) -> Result<(), String> {
         loop {
             let served = instance
-                .serve(&self.device, buffer, PACKETS_A_CALL)
+                .serve(&self.device, trace, PACKETS_A_CALL)
                 .map_err(|refusal| format!("the library serves no more: {refusal}"))?;
             match served.end {
                 End::Most => {}

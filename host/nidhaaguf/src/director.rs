@@ -1,9 +1,10 @@
 //! A director that owns its state and its connection table.
 
+use crate::connections::{connections, Connection};
 use crate::ffi::clear_errno;
 use crate::passed::{packet_verdict, verdict};
-use crate::raw::{self, Answer, Record, State};
-use crate::{Answered, Burst, Counters, End, Served};
+use crate::raw::{self, Answer, LentToServe, Record, State};
+use crate::{Answered, Burst, Counters, End, Served, Trace};
 use crate::{Passed, Refusal, Settings};
 use std::io;
 use std::os::fd::AsFd;
@@ -178,15 +179,15 @@ impl Director {
     }
 
     /// A [`tick`](Director::tick), then packets as they come: each is read from `descriptor`, taken as in a
-    /// [`burst`](Director::burst) and, accepted, written back; until a read gives nothing or `most` packets are taken.
-    /// The descriptor gives one packet a read, such as a TUN device or a datagram socket. The call waits where its reads
-    /// do, and its clock stands still meanwhile; a signal ends it, unless it comes just before the read. A packet longer
-    /// than `buffer` is cut, and then refused.
+    /// [`burst`](Director::burst) and, accepted, written back; until a read gives nothing, `most` packets are taken, the trace
+    /// has no room for another, or one is refused with `stop`. The descriptor gives one packet a read, such as a TUN device or
+    /// a datagram socket. The call waits where its reads do, and its clock stands still meanwhile; a signal ends it, unless it
+    /// comes just before the read. The trace then has the packets with their answers.
     ///
     /// Refused: [`EarlierClock`](Refusal::EarlierClock), and nothing is read.
     ///
     /// ```
-    /// use nidhaaguf::{Change, Counters, Director, End, Protocol, Refusal, Scheduler, Settings, Way};
+    /// use nidhaaguf::{Change, Counters, Director, End, Protocol, Refusal, Scheduler, Settings, Trace, Way};
     /// use std::os::unix::net::UnixDatagram;
     ///
     /// let settings = Settings::new("192.0.2.10:5432".parse()?, Protocol::Tcp, Scheduler::RoundRobin)
@@ -200,12 +201,14 @@ impl Director {
     /// other_end.send(&syn)?;
     /// other_end.send(&syn[..19])?;
     ///
-    /// let mut counters = Counters::new();
-    /// let served = director.serve(&device, &mut [0; 2_048], &mut counters, 1, 2)?;
+    /// let (mut trace, mut counters) = (Trace::new(64), Counters::new());
+    /// let served = director.serve(&device, &mut trace, &mut counters, 1, 2, None)?;
     /// assert!(matches!(served.end, End::Most));
     /// assert_eq!((served.taken, served.unsent), (2, 0));
     /// assert_eq!(counters.accepted(Way::Inbound, Change::Opened), 1);
     /// assert_eq!(counters.refused(Way::Inbound, Refusal::MalformedHeader), 1);
+    /// let answers: Vec<_> = trace.packets().map(|packet| packet.answer.map(|passed| passed.change)).collect();
+    /// assert_eq!(answers, [Ok(Change::Opened), Err(Refusal::MalformedHeader)]);
     /// # let mut sent = [0; 2_048];
     /// # assert_eq!(other_end.recv(&mut sent)?, 40);
     /// # assert_eq!(sent[16..20], [10, 1, 0, 5]);
@@ -214,19 +217,45 @@ impl Director {
     pub fn serve(
         &mut self,
         descriptor: impl AsFd,
-        buffer: &mut [u8],
+        trace: &mut Trace,
         counters: &mut Counters,
         clock: u32,
         most: u32,
+        stop: Option<Refusal>,
     ) -> Result<Served, Refusal> {
-        let (state, row, counters) = (self.state, &mut self.row, &mut counters.0);
+        let (buffer, records) = trace.lent();
+        let lent = LentToServe { row: &mut self.row, buffer, records, counters: &mut counters.0 };
+        let number = stop.map_or(0, Refusal::number);
         clear_errno();
-        let served = raw::serve(descriptor.as_fd(), state, row, buffer, counters, clock, most);
-        let end = End::of(served.taken == most, io::Error::last_os_error());
+        let served = raw::serve(descriptor.as_fd(), self.state, lent, clock, most, number);
+        let error = io::Error::last_os_error();
         self.state = served.state;
+        trace.set_taken(served.taken as usize);
         verdict(served.refusal)?;
         let raw::Served { removed, taken, unsent, .. } = served;
+        let end = End::of(taken == most || trace.has_ended(stop), error);
         Ok(Served { removed, taken, unsent, end })
+    }
+
+    /// The connections, in the order of the table.
+    ///
+    /// ```
+    /// # use nidhaaguf::{Director, Phase, Protocol, Scheduler, Settings};
+    /// # let settings = Settings::new("192.0.2.10:5432".parse()?, Protocol::Tcp, Scheduler::RoundRobin)
+    /// #     .server("10.1.0.5:6432".parse()?, 1);
+    /// let mut director = Director::set_up(&settings, 16)?;
+    /// # let mut syn = [
+    /// #     0x45, 0, 0, 0x28, 0, 0, 0x40, 0, 0x40, 0x06, 0x6E, 0xC5, 10, 0, 0, 1, 192, 0, 2, 10,
+    /// #     0x9C, 0x40, 0x15, 0x38, 0, 0, 0, 0, 0, 0, 0, 0, 0x50, 0x02, 0, 0, 0x32, 0x5F, 0, 0,
+    /// # ];
+    /// director.inbound(&mut syn, 7)?;
+    /// let connection = director.connections().next().unwrap();
+    /// assert_eq!(connection.client, "10.0.0.1:40000".parse()?);
+    /// assert_eq!((connection.server, connection.phase, connection.seen), (0, Phase::Open, 7));
+    /// # Ok::<(), Box<dyn std::error::Error>>(())
+    /// ```
+    pub fn connections(&self) -> impl Iterator<Item = Connection> + '_ {
+        connections(&self.row)
     }
 
     /// The latest accepted clock.

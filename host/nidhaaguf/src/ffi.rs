@@ -61,9 +61,12 @@ extern "C" {
         row_length: usize,
         buffer: *mut u8,
         buffer_length: usize,
+        records: *mut u32,
+        records_length: usize,
         counters: *mut [u64; COUNTERS],
         clock: u32,
         most: u32,
+        stop: u32,
     ) -> Served;
     fn __errno_location() -> *mut i32;
 }
@@ -125,25 +128,48 @@ pub fn burst(
     }
 }
 
+/// What a serve is lent: all of it is as the serve left it on return.
+#[derive(Debug)]
+pub struct LentToServe<'a> {
+    pub row: &'a mut [u32],
+    /// Where the packets are read, one behind the other.
+    pub buffer: &'a mut [u8],
+    /// Five words for each packet: see [`Traced`](crate::raw::Traced).
+    pub records: &'a mut [u32],
+    /// Place 23 * way + i, way 0 inbound and 1 outbound; i = 0 opened, 1 kept, 2 ended, 2 + n refusal n.
+    pub counters: &'a mut [u64; COUNTERS],
+}
+
 /// A tick at `clock`, then packets that are read from `descriptor`, each as inbound or outbound by its destination, and
-/// written back to it where they are accepted: until a read gives nothing or `most` are taken. Answers are added up in
-/// `counters`: place 23 * way + i, way 0 inbound and 1 outbound; i = 0 opened, 1 kept, 2 ended, 2 + n refusal n.
-/// Where fewer than `most` were taken and the read failed, the error is `std::io::Error::last_os_error()`. Refusals 15, 11.
+/// written back to it where they are accepted: until a read gives nothing, `most` are taken, a record or
+/// [`LONGEST`](crate::raw::LONGEST) bytes of the buffer are missing for the next, or one is refused with the number `stop`.
+/// Where a read failed, the error is `std::io::Error::last_os_error()`. Refusals 15, 11.
 pub fn serve(
     descriptor: BorrowedFd<'_>,
     state: State,
-    row: &mut [u32],
-    buffer: &mut [u8],
-    counters: &mut [u64; COUNTERS],
+    lent: LentToServe<'_>,
     clock: u32,
     most: u32,
+    stop: u32,
 ) -> Served {
-    let (words, word_count) = (row.as_mut_ptr(), row.len());
-    let (bytes, byte_count) = (buffer.as_mut_ptr(), buffer.len());
+    let LentToServe { row, buffer, records, counters } = lent;
     let number = descriptor.as_raw_fd();
     // SAFETY: as for burst; the descriptor is open for the call.
     unsafe {
-        nidhaaguf_serve(number, state, words, word_count, bytes, byte_count, counters, clock, most)
+        nidhaaguf_serve(
+            number,
+            state,
+            row.as_mut_ptr(),
+            row.len(),
+            buffer.as_mut_ptr(),
+            buffer.len(),
+            records.as_mut_ptr(),
+            records.len(),
+            counters,
+            clock,
+            most,
+            stop,
+        )
     }
 }
 
@@ -151,6 +177,13 @@ pub fn serve(
 pub fn words(records: &mut [Record]) -> &mut [u32] {
     let length = records.len() * WORDS_PER_RECORD;
     // SAFETY: a record is four words without padding (asserted beside it), any of which may have any value.
+    unsafe { std::slice::from_raw_parts_mut(records.as_mut_ptr().cast(), length) }
+}
+
+/// Records as the words that a serve takes.
+pub fn traced_words(records: &mut [Traced]) -> &mut [u32] {
+    let length = records.len() * WORDS_PER_TRACED;
+    // SAFETY: likewise, of five words.
     unsafe { std::slice::from_raw_parts_mut(records.as_mut_ptr().cast(), length) }
 }
 

@@ -53,6 +53,7 @@
 #![warn(missing_debug_implementations)]
 
 mod burst;
+mod connections;
 mod director;
 #[allow(unsafe_code)]
 mod ffi;
@@ -62,11 +63,14 @@ mod refusal;
 mod served;
 mod settings;
 mod structs;
+mod trace;
 mod weights;
 
 pub use burst::{Answered, Burst};
+pub use connections::{Connection, Phase};
 pub use director::Director;
 pub use passed::{Change, Passed};
 pub use refusal::Refusal;
 pub use served::{Counters, End, Served, Way};
 pub use settings::{Protocol, Scheduler, Server, Settings};
+pub use trace::{TakenPacket, Trace};

@@ -14,6 +14,8 @@
 //! assert_eq!(answer.state, raw::State::default());
 //! ```
 
-pub use crate::ffi::{burst, count, inbound, outbound, serve, set_up, set_weight, tick, words};
-pub use crate::structs::{Answer, Record, Served, Server, Servers, Service, State};
-pub use crate::structs::{COUNTERS, PLACE, PLACES, WORDS_PER_RECORD, WORDS_PER_SLOT};
+pub use crate::ffi::{burst, count, inbound, outbound, serve, set_up, set_weight, tick};
+pub use crate::ffi::{traced_words, words, LentToServe};
+pub use crate::structs::{Answer, Record, Served, Server, Servers, Service, State, Traced};
+pub use crate::structs::{COUNTERS, LONGEST, PLACE, PLACES};
+pub use crate::structs::{WORDS_PER_RECORD, WORDS_PER_SLOT, WORDS_PER_TRACED};

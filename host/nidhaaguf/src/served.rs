@@ -81,7 +81,7 @@ pub struct Served {
 /// Why a serve has ended.
 #[derive(Debug)]
 pub enum End {
-    /// As many packets were taken as it was to take.
+    /// As many packets were taken as it was to take or the trace has room for, or the last one was refused as it was to stop at.
     Most,
     /// A read gave 0 bytes.
     Empty,

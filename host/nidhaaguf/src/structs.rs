@@ -14,6 +14,12 @@ pub const PLACE: usize = 2_048;
 /// Words of a burst's record.
 pub const WORDS_PER_RECORD: usize = 4;
 
+/// The longest IPv4 packet, with one byte to spare: a serve reads on while so many bytes of its buffer are left.
+pub const LONGEST: usize = 65_536;
+
+/// Words of a serve's record.
+pub const WORDS_PER_TRACED: usize = 5;
+
 /// Counters of a serve: 23 for each way, inbound first. A refusal's place goes by its number, up to 20.
 pub const COUNTERS: usize = 46;
 
@@ -86,6 +92,22 @@ pub struct Record {
     pub change: u32,
 }
 
+/// Of a packet that a serve has taken.
+#[repr(C)]
+#[derive(Clone, Copy, Debug, Default, PartialEq, Eq)]
+pub struct Traced {
+    /// Its bytes, which stand in the buffer behind those of the packet before.
+    pub length: u32,
+    /// Which call it was given to: 0 inbound, 1 outbound.
+    pub way: u32,
+    /// 0 for accepted, else the refusal's number.
+    pub refusal: u32,
+    /// Accepted: the server's number; else 0.
+    pub server: u32,
+    /// Accepted: 1 opened, 2 kept, 3 ended; else 0.
+    pub change: u32,
+}
+
 /// What a serve gives back.
 #[repr(C)]
 #[derive(Clone, Copy, Debug, PartialEq, Eq)]
@@ -138,3 +160,7 @@ const _: () = assert!(offset_of!(Record, server) == 8 && offset_of!(Record, chan
 const _: () = assert!(offset_of!(Served, state) == 0 && offset_of!(Served, refusal) == 800);
 const _: () = assert!(offset_of!(Served, removed) == 804 && offset_of!(Served, taken) == 808);
 const _: () = assert!(offset_of!(Served, unsent) == 812);
+const _: () = assert!(size_of::<Traced>() == 20);
+const _: () = assert!(offset_of!(Traced, length) == 0 && offset_of!(Traced, way) == 4);
+const _: () = assert!(offset_of!(Traced, refusal) == 8 && offset_of!(Traced, server) == 12);
+const _: () = assert!(offset_of!(Traced, change) == 16);

@@ -1,8 +1,9 @@
 //! A burst or a serve with its packets, without state and row.
 
+use super::ends::LONGEST;
 use super::other_end::OtherEnd;
 use crate::call::hex;
-use nidhaaguf::raw::{COUNTERS, PLACE, WORDS_PER_RECORD};
+use nidhaaguf::raw::{COUNTERS, PLACE, WORDS_PER_RECORD, WORDS_PER_TRACED};
 use std::fmt;
 
 /// A packet that is handed in with others.
@@ -35,7 +36,10 @@ pub struct Burst {
 pub struct Serve {
     /// The buffer's length.
     pub buffer: usize,
+    /// How many words of records are lent.
+    pub words: usize,
     pub most: u32,
+    pub stop: u32,
     /// The first counter; the others count on from it, each one more.
     pub counted: u64,
     pub other_end: OtherEnd,
@@ -92,7 +96,47 @@ impl Burst {
     }
 }
 
+impl Many {
+    /// With these packets alone, by their places in order.
+    pub fn with(&self, places: &[usize]) -> Many {
+        let packets = places.iter().map(|&place| self.packets[place].clone()).collect();
+        let form = match self.form {
+            Form::Burst(burst) => Form::Burst(burst),
+            Form::Serve(serve) => Form::Serve(serve.with(&self.packets, places)),
+        };
+        Many { clock: self.clock, packets, form }
+    }
+}
+
 impl Serve {
+    /// For these of the packets alone: the others' records and room, and their part of most, go with them. So it ends behind
+    /// the same packet, and what depends on that end fails again.
+    fn with(self, packets: &[Packet], places: &[usize]) -> Serve {
+        let mut less = self;
+        let mut end = LONGEST;
+        for (place, packet) in packets.iter().enumerate() {
+            end += packet.bytes.len();
+            if places.binary_search(&place).is_ok() {
+                continue;
+            }
+            if end <= self.buffer {
+                less.buffer -= packet.bytes.len();
+            }
+            if place < self.records() {
+                less.words -= WORDS_PER_TRACED;
+            }
+            if place < self.most as usize && self.most < u32::MAX {
+                less.most -= 1;
+            }
+        }
+        less
+    }
+
+    /// The whole records that are lent.
+    pub fn records(&self) -> usize {
+        self.words / WORDS_PER_TRACED
+    }
+
     pub fn lent_counters(&self) -> [u64; COUNTERS] {
         std::array::from_fn(|place| self.counted.wrapping_add(place as u64))
     }

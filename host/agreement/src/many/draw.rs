@@ -1,7 +1,7 @@
 //! Bursts and serves, drawn along the reference with a bias to edges.
 
-use super::call::{Burst, Form, Many, Packet, Serve};
-use super::other_end::{OtherEnd, FEW};
+use super::call::{Burst, Form, Many, Packet};
+use super::draw_serve::serve;
 use super::singly::Singly;
 use crate::case::{rng, Kind};
 use crate::choose::clock::clock;
@@ -18,9 +18,6 @@ pub const SIZES: [usize; 6] = [0, 1, 2, 7, 64, 300];
 /// Lengths that a burst's record may tell, whatever the packet.
 const LENGTHS: [u32; 11] =
     [0, 19, 20, 2_047, 2_048, 2_048, 2_049, 65_535, 65_536, 1 << 31, u32::MAX];
-
-/// First counters. The last four make one more wrap: of an outbound 20, an outbound ending, an inbound 20, an opening.
-const COUNTED: [u64; 7] = [0, 7, 1 << 32, u64::MAX - 45, u64::MAX - 25, u64::MAX - 22, u64::MAX];
 
 /// A case that is being drawn.
 pub struct Case {
@@ -80,7 +77,7 @@ fn many(rng: &mut Rng, world: &World) -> Many {
     let mut packets: Vec<Packet> = bytes.into_iter().map(Packet::new).collect();
     let form = match rng.permille(500) {
         true => Form::Burst(burst(rng, &mut packets)),
-        false => Form::Serve(serve(rng, &mut packets)),
+        false => Form::Serve(serve(rng, &singly, &mut packets)),
     };
     Many { clock, packets, form }
 }
@@ -101,6 +98,12 @@ fn drawn_along(rng: &mut Rng, singly: &mut Singly) -> Vec<u8> {
 
 /// A right packet of a client that just fills a place of a burst, or almost, or is too long for it.
 fn place_filling(rng: &mut Rng, world: &World) -> Vec<u8> {
+    let total = rng.one_of(&[2_047, 2_048, 2_048, 2_049]);
+    of_total(rng, world, total)
+}
+
+/// A right packet of a client, of so many bytes.
+pub(super) fn of_total(rng: &mut Rng, world: &World, total: usize) -> Vec<u8> {
     let service = &world.state.service;
     let to = (service.address, service.port);
     let client = some_client(rng, world);
@@ -108,7 +111,6 @@ fn place_filling(rng: &mut Rng, world: &World) -> Vec<u8> {
         UDP => packets::udp(client, to),
         _ => packets::tcp(client, to, packets::SYN),
     };
-    let total = rng.one_of(&[2_047, 2_048, 2_048, 2_049]);
     plan.data = rng.bytes(total - plan.build().len());
     plan.build()
 }
@@ -130,25 +132,4 @@ fn burst(rng: &mut Rng, packets: &mut [Packet]) -> Burst {
         5 => Burst { places: 1, words: 3, ..none },
         _ => none,
     }
-}
-
-fn serve(rng: &mut Rng, packets: &mut [Packet]) -> Serve {
-    let size = packets.len();
-    if size > 0 && rng.permille(100) {
-        // a read that gives nothing, before others that would
-        packets[rng.below(size)] = Packet::new(Vec::new());
-    }
-    let buffer = match rng.permille(800) {
-        true => rng.one_of(&[2_048, 2_048, 70_000]),
-        false => rng.one_of(&[0, 1, 19, 20, 27, 28, 40, 44, 60]),
-    };
-    let few = size as u32 / 2;
-    let size_and_one = size as u32 + 1;
-    let most = rng.one_of(&[0, 1, few, size as u32, size as u32, size_and_one, u32::MAX, u32::MAX]);
-    let counted = rng.one_of(&COUNTED);
-    let other_end = match size <= FEW {
-        true => rng.one_of(&[OtherEnd::Ending, OtherEnd::Silent, OtherEnd::Unreceiving]),
-        false => OtherEnd::Ending,
-    };
-    Serve { buffer, most, counted, other_end }
 }

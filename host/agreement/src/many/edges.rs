@@ -1,9 +1,9 @@
 //! Which edges of bursts and serves a run has met.
 
 use super::call::{Burst, Many, Serve};
-use super::other_end::OtherEnd;
+use super::edges_of_serves::SERVES;
 use super::singly::{Singly, Step, Way};
-use super::wanted::{counter_of, Wanted};
+use super::wanted::Wanted;
 use crate::counted::Counted;
 
 /// A burst or serve that was made, and the single calls that it stands for.
@@ -12,7 +12,7 @@ pub struct Moment<'a> {
     pub wanted: &'a Wanted,
 }
 
-type Edge<T> = (&'static str, fn(&Moment, &T) -> bool);
+pub(super) type Edge<T> = (&'static str, fn(&Moment, &T) -> bool);
 
 /// Of the single calls, in bursts as in serves.
 const BOTH: [Edge<Singly>; 14] = [
@@ -55,26 +55,7 @@ const BURSTS: [Edge<Burst>; 14] = [
     ("whole place, part of a record", |_, burst| burst.places > 0 && burst.words > 0),
 ];
 
-const SERVES: [Edge<Serve>; 10] = [
-    ("ended by an empty datagram", |m, serve| m.left_over(serve) > 0 && m.taken() < serve.most),
-    ("ended with nothing to read", |m, _| m.wanted.left.would_wait),
-    ("ended by most, others unread", |m, serve| m.taken() > 0 && m.is_stopped(serve)),
-    ("most 0", |m, serve| m.is_stopped(serve) && serve.most == 0),
-    ("unsent", |m, _| m.wanted.left.told.unsent > 0),
-    ("nothing to send, none received", |m, serve| {
-        serve.other_end == OtherEnd::Unreceiving && m.taken() > 0 && m.wanted.left.told.unsent == 0
-    }),
-    ("fills the buffer, or is cut", |m, serve| {
-        m.wanted.singly.has(|step| step.came.len() == serve.buffer)
-    }),
-    ("no buffer", |_, serve| serve.buffer == 0),
-    ("a counter wraps", |m, serve| m.has_wrapped(serve)),
-    ("tick refused, packets unread", |m, _| {
-        m.wanted.singly.tick.refusal != 0 && m.many.packets.len() > 1
-    }),
-];
-
-fn is_accepted(step: &Step) -> bool {
+pub(super) fn is_accepted(step: &Step) -> bool {
     step.told.refusal == 0
 }
 
@@ -104,7 +85,7 @@ pub fn of_serves() -> Counted {
 }
 
 impl Singly {
-    fn has(&self, is_one: impl Fn(&Step) -> bool) -> bool {
+    pub(super) fn has(&self, is_one: impl Fn(&Step) -> bool) -> bool {
         self.steps.iter().any(is_one)
     }
 
@@ -144,10 +125,6 @@ impl Moment<'_> {
         BOTH.iter().map(|(_, is_met)| is_met(self, &self.wanted.singly))
     }
 
-    fn taken(&self) -> u32 {
-        self.wanted.left.told.taken
-    }
-
     /// Some taken packet's record tells such a length.
     fn has_length(&self, is_such: fn(u32) -> bool) -> bool {
         let is_taken = self.wanted.singly.tick.refusal == 0;
@@ -157,22 +134,5 @@ impl Moment<'_> {
     fn is_long_one_accepted(&self) -> bool {
         let mut both = self.many.packets.iter().zip(&self.wanted.singly.steps);
         both.any(|(packet, step)| packet.length > 2_048 && is_accepted(step))
-    }
-
-    /// How many packets an accepted serve leaves unread.
-    fn left_over(&self, serve: &Serve) -> usize {
-        match self.wanted.singly.tick.refusal == 0 && serve.buffer > 0 {
-            true => self.wanted.left.seen.unread.len(),
-            false => 0,
-        }
-    }
-
-    fn is_stopped(&self, serve: &Serve) -> bool {
-        self.left_over(serve) > 0 && self.taken() == serve.most
-    }
-
-    fn has_wrapped(&self, serve: &Serve) -> bool {
-        let before = serve.lent_counters();
-        self.wanted.singly.steps.iter().any(|step| before[counter_of(step)] == u64::MAX)
     }
 }

@@ -1,6 +1,6 @@
 //! What a burst or serve has left, with guards around all that it was lent.
 
-use super::call::{Burst, Form, Many, Serve, FILLED_BYTE};
+use super::call::{Burst, Form, Many, Serve, FILLED_BYTE, FILLED_WORD};
 use super::other_end::Seen;
 use super::sides::{LentToBurst, LentToServe, ManySide, ToldOfMany};
 use crate::compare::{items_difference, state_difference};
@@ -17,12 +17,11 @@ pub struct Left {
     pub row: Option<Vec<u32>>,
     /// A burst's packets, or a serve's buffer.
     pub bytes: Option<Vec<u8>>,
-    /// A burst's records.
     pub records: Option<Vec<u32>>,
     /// A serve's.
     pub counters: Option<Vec<u64>>,
     pub seen: Seen,
-    /// Whether errno says that a read would wait; of serves.
+    /// Whether errno says that a read would wait: a serve that ended for another reason has made no such read.
     pub would_wait: bool,
 }
 
@@ -60,23 +59,32 @@ fn make_burst(side: &dyn ManySide, many: &Many, burst: Burst, world: &World) -> 
 fn make_serve(side: &dyn ManySide, many: &Many, serve: Serve, world: &World) -> Left {
     let mut state = world.state;
     let mut row = lent_row(world);
-    let mut buffer = Lent::new(&vec![FILLED_BYTE; serve.buffer], 16 + serve.buffer % 8, 0xA5);
+    let mut buffer = Lent::filled(serve.buffer, FILLED_BYTE, 16 + serve.buffer % 8, 0xA5);
+    let mut records = Lent::filled(serve.words, FILLED_WORD, 16, 0xA5A5_A5A5);
     let mut counters = Lent::new(&serve.lent_counters(), 16, 0xA5A5_A5A5_A5A5_A5A5);
     let packets = many.packets.iter().map(|packet| packet.bytes.clone()).collect();
     let ((told, would_wait), seen) = serve.other_end.serve(packets, |descriptor| {
+        set_other_errno();
         let told = side.serve(LentToServe {
             descriptor,
             state: &mut state,
             row: row.part(),
             buffer: buffer.part(),
+            records: records.part(),
             counters: counters.part().try_into().expect("as many as were lent"),
             clock: many.clock,
             most: serve.most,
+            stop: serve.stop,
         });
         (told, Error::last_os_error().kind() == ErrorKind::WouldBlock)
     });
-    let (row, bytes, counters) = (row.back(), buffer.back(), counters.back());
-    Left { told, state, row, bytes, records: Some(Vec::new()), counters, seen, would_wait }
+    let (row, bytes, records) = (row.back(), buffer.back(), records.back());
+    Left { told, state, row, bytes, records, counters: counters.back(), seen, would_wait }
+}
+
+/// A call that fails otherwise than by waiting: what errno says later is not of a read before.
+fn set_other_errno() {
+    std::fs::symlink_metadata("").expect_err("a file without a name");
 }
 
 impl Left {

@@ -44,22 +44,15 @@ pub fn units_of(calls: &[Many]) -> usize {
 /// The list of these units, in order; a packet whose call is left out is left out, too.
 pub fn kept(calls: &[Many], places: &[usize]) -> Vec<Many> {
     let units = units(calls);
-    let mut kept: Vec<Many> = Vec::new();
-    let mut last = None;
+    let mut kept: Vec<(usize, Vec<usize>)> = Vec::new();
     for &place in places {
-        match units[place] {
-            (call, None) => {
-                kept.push(Many { packets: Vec::new(), ..calls[call].clone() });
-                last = Some(call);
-            }
-            (call, Some(packet)) if last == Some(call) => {
-                let packet = calls[call].packets[packet].clone();
-                kept.last_mut().expect("the packet's call").packets.push(packet);
-            }
+        match (units[place], kept.last_mut()) {
+            ((call, None), _) => kept.push((call, Vec::new())),
+            ((call, Some(packet)), Some((last, packets))) if *last == call => packets.push(packet),
             _ => {}
         }
     }
-    kept
+    kept.iter().map(|(call, packets)| calls[*call].with(packets)).collect()
 }
 
 /// The places of a failure's units without which it doesn't fail.

@@ -22,9 +22,11 @@ pub struct LentToServe<'a> {
     pub state: &'a mut State,
     pub row: &'a mut [u32],
     pub buffer: &'a mut [u8],
+    pub records: &'a mut [u32],
     pub counters: &'a mut [u64; COUNTERS],
     pub clock: u32,
     pub most: u32,
+    pub stop: u32,
 }
 
 /// What a burst or serve tells beside the state; a burst has no packets taken or unsent.
@@ -61,9 +63,10 @@ impl ManySide for Library {
     }
 
     fn serve(&self, lent: LentToServe) -> ToldOfMany {
-        let LentToServe { descriptor, state, row, buffer, counters, clock, most } = lent;
+        let LentToServe { descriptor, state, row, buffer, records, counters, .. } = lent;
         let (descriptor, handed) = (descriptor.as_fd(), to_library(state));
-        let served = raw::serve(descriptor, handed, row, buffer, counters, clock, most);
+        let parts = raw::LentToServe { row, buffer, records, counters };
+        let served = raw::serve(descriptor, handed, parts, lent.clock, lent.most, lent.stop);
         *state = from_library(&served.state);
         let raw::Served { refusal, removed, taken, unsent, .. } = served;
         ToldOfMany { refusal, removed, change: 0, taken, unsent }

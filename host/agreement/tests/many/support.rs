@@ -4,6 +4,7 @@ use agreement::call::{Call, Lending, Told};
 use agreement::compare;
 use agreement::many::call::{Burst, Form, Many, Packet, Serve};
 use agreement::many::compare::step;
+use agreement::many::ends::LONGEST;
 use agreement::many::other_end::OtherEnd;
 use agreement::many::wanted::Wanted;
 use agreement::sides::Library;
@@ -49,8 +50,14 @@ pub fn back(from: u32, to: u32, flags: u8) -> Vec<u8> {
 pub const BURST: Form = Form::Burst(Burst { places: 0, bytes: 0, records: 0, words: 0 });
 
 /// A serve that takes all there is.
-pub const SERVE: Serve =
-    Serve { buffer: 2_048, most: u32::MAX, counted: 0, other_end: OtherEnd::Ending };
+pub const SERVE: Serve = Serve {
+    buffer: LONGEST + 300 * 40,
+    words: 5 * 300 + 5,
+    most: u32::MAX,
+    stop: 0,
+    counted: 0,
+    other_end: OtherEnd::Ending,
+};
 
 pub fn many(clock: u32, packets: Vec<Vec<u8>>, form: Form) -> Many {
     Many { clock, packets: packets.into_iter().map(Packet::new).collect(), form }

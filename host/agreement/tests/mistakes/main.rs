@@ -3,9 +3,11 @@
 mod checksum;
 mod many;
 mod mistaken_many;
+mod mistaken_serve;
 mod packets;
 mod picks;
 mod renewal;
+mod serves;
 mod state;
 mod support;
 mod weights;

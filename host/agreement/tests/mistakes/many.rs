@@ -20,20 +20,20 @@ fn is_found(side: &MistakenMany, most_packets: usize) -> (String, Vec<Many>) {
 
 /// Where a mistake is made.
 #[derive(Clone, Copy, Debug, PartialEq, Eq)]
-enum Where {
+pub enum Where {
     Bursts,
     Serves,
 }
 use Where::{Bursts, Serves};
 
-/// The same, with the mistake in one form alone.
-fn is_found_in(place: Where, mistake: Mistake, most_packets: usize, complaint: &str) {
+/// The same, with the mistake in one form alone. Its complaint is one of these, which "or" divides.
+pub fn is_found_in(place: Where, mistake: Mistake, most_packets: usize, complaint: &str) {
     let (in_bursts, in_serves) = match place {
         Bursts => (mistake, Mistake::None),
         Serves => (Mistake::None, mistake),
     };
     let (found, few) = is_found(&MistakenMany { in_bursts, in_serves }, most_packets);
-    assert!(found.contains(complaint), "{found}");
+    assert!(complaint.split(" or ").any(|part| found.contains(part)), "{found}");
     let is_burst = matches!(few[few.len() - 1].form, Form::Burst(_));
     assert_eq!(is_burst, place == Bursts);
 }
@@ -47,7 +47,7 @@ fn without_a_mistake_nothing_is_found() {
 #[test]
 fn stops_at_the_first_refusal() {
     is_found_in(Bursts, Mistake::StopsAtFirstRefusal, 2, "records");
-    is_found_in(Serves, Mistake::StopsAtFirstRefusal, 2, "unread");
+    is_found_in(Serves, Mistake::StopsAtFirstRefusal, 2, "unread or errno");
 }
 
 #[test]
@@ -77,6 +77,7 @@ fn largest_weight_and_divisor_not_judged() {
 #[test]
 fn the_record_of_the_next_place_written() {
     is_found_in(Bursts, Mistake::RecordOfNextPlace, 1, "records");
+    is_found_in(Serves, Mistake::RecordOfNextPlace, 1, "records");
 }
 
 #[test]
@@ -88,39 +89,4 @@ fn a_long_packet_cut_a_byte_too_early() {
 #[test]
 fn a_part_of_a_place_taken() {
     is_found_in(Bursts, Mistake::PartOfAPlaceTaken, 0, "records");
-}
-
-#[test]
-fn an_answer_counted_for_the_other_way() {
-    is_found_in(Serves, Mistake::CountedForOtherWay, 1, "counters");
-}
-
-#[test]
-fn refusals_counted_as_if_no_number_were_left_out() {
-    is_found_in(Serves, Mistake::CountedWithoutGaps, 1, "counters");
-}
-
-#[test]
-fn refused_packets_written() {
-    is_found_in(Serves, Mistake::RefusedWritten, 2, "written");
-}
-
-#[test]
-fn accepted_packets_written_twice() {
-    is_found_in(Serves, Mistake::AcceptedWrittenTwice, 1, "written");
-}
-
-#[test]
-fn one_more_taken_than_most() {
-    is_found_in(Serves, Mistake::OneMoreThanMost, 2, "unread");
-}
-
-#[test]
-fn unsent_packets_not_counted() {
-    is_found_in(Serves, Mistake::UnsentNotCounted, 1, "unsent: 0");
-}
-
-#[test]
-fn an_empty_read_taken_for_a_packet() {
-    is_found_in(Serves, Mistake::EmptyReadTaken, 0, "taken: 1");
 }

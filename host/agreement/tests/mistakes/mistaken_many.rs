@@ -1,12 +1,11 @@
 //! A wrong director of bursts and serves.
 
+use crate::mistaken_serve::serve;
 use agreement::call::{Call, Told};
 use agreement::many::sides::{LentToBurst, LentToServe, ManySide, ToldOfMany};
 use agreement::many::singly::{single_call, way_of, Way};
-use agreement::many::wanted::EACH_WAY;
 use agreement::sides::{Reference, Side};
-use reference::{is_sound, refusal, weights, State};
-use std::os::unix::net::UnixDatagram;
+use reference::{is_sound, weights, State};
 
 /// Bursts and serves by the reference's single calls, with a mistake in one of the two forms.
 #[derive(Clone, Copy)]
@@ -24,32 +23,69 @@ pub enum Mistake {
     RefusedTickOverlooked,
     WeightNumbersUnjudged,
     // of bursts
-    RecordOfNextPlace,
     LongPacketCutTo2047,
     PartOfAPlaceTaken,
-    // of serves
+    // of both, in other records
+    RecordOfNextPlace,
+    // of serves: what is written and counted
     CountedForOtherWay,
     CountedWithoutGaps,
     RefusedWritten,
     AcceptedWrittenTwice,
-    OneMoreThanMost,
     UnsentNotCounted,
     EmptyReadTaken,
+    // what is told
+    WayToldWrong,
+    WayToldByAnswer,
+    LengthOffByOne,
+    LengthOfTotal,
+    RefusedToldAsAccepted,
+    ServerOfRefusedToldAsOther,
+    UnsentNotTold,
+    LastNotTold,
+    RefusedTickTold,
+    WordPastLastRecordTouched,
+    // what the buffer holds
+    EachAtTheBeginning,
+    RefusedChanged,
+    AcceptedAsItCame,
+    RefusedReadOver,
+    BytePastLastPacketTouched,
+    CutAtLongest,
+    // when it ends
+    OneMoreThanMost,
+    OneFewerThanMost,
+    OneMoreThanRecords,
+    OneFewerThanRecords,
+    PartOfARecordTaken,
+    GoesOnWithLessRoom,
+    EndsWithJustRoom,
+    NoneIntoShortBuffer,
+    StopIgnored,
+    StopAtAccepted,
+    StopAtAnyRefusal,
+    StopByLowByte,
+    StopForInboundAlone,
+    ReadsBehindTheEnd,
 }
 
 /// Takes packets one after another.
-struct Taker<'a> {
+pub struct Taker<'a> {
     mistake: Mistake,
     state: &'a mut State,
     row: &'a mut [u32],
     clock: u32,
-    taken: usize,
+    pub taken: usize,
     before_first: Option<(State, Vec<u32>)>,
 }
 
-impl Taker<'_> {
+impl<'a> Taker<'a> {
+    pub fn new(mistake: Mistake, state: &'a mut State, row: &'a mut [u32], clock: u32) -> Self {
+        Taker { mistake, state, row, clock, taken: 0, before_first: None }
+    }
+
     /// What the tick tells, and whether packets are taken after it.
-    fn tick(&mut self) -> (Told, bool) {
+    pub fn tick(&mut self) -> (Told, bool) {
         if self.mistake == Mistake::WeightNumbersUnjudged {
             weights::make_true(self.state);
         }
@@ -63,7 +99,7 @@ impl Taker<'_> {
         (told, told.refusal == 0 || self.mistake == Mistake::RefusedTickOverlooked)
     }
 
-    fn packet(&mut self, packet: &mut [u8]) -> (Way, Told) {
+    pub fn packet(&mut self, packet: &mut [u8]) -> (Way, Told) {
         if self.taken == 0 {
             self.before_first = Some((*self.state, self.row.to_vec()));
         }
@@ -78,7 +114,7 @@ impl Taker<'_> {
         (way, Reference.make(&call, self.state, self.row, packet))
     }
 
-    fn stops(&self, told: Told) -> bool {
+    pub fn stops(&self, told: Told) -> bool {
         self.mistake == Mistake::StopsAtFirstRefusal && told.refusal != 0
     }
 }
@@ -87,7 +123,7 @@ impl ManySide for MistakenMany {
     fn burst(&self, lent: LentToBurst) -> ToldOfMany {
         let LentToBurst { state, row, packets, records, clock } = lent;
         let mistake = self.in_bursts;
-        let mut taker = Taker { mistake, state, row, clock, taken: 0, before_first: None };
+        let mut taker = Taker::new(mistake, state, row, clock);
         let (tick, goes_on) = taker.tick();
         let mut places: Vec<&mut [u8]> = packets.chunks_mut(2_048).collect();
         if mistake != Mistake::PartOfAPlaceTaken {
@@ -109,56 +145,6 @@ impl ManySide for MistakenMany {
     }
 
     fn serve(&self, lent: LentToServe) -> ToldOfMany {
-        let LentToServe { descriptor, state, row, buffer, counters, clock, most } = lent;
-        let mistake = self.in_serves;
-        let mut taker = Taker { mistake, state, row, clock, taken: 0, before_first: None };
-        let (tick, goes_on) = taker.tick();
-        let mut served = ToldOfMany::of_tick(tick);
-        let most = most.saturating_add(u32::from(mistake == Mistake::OneMoreThanMost));
-        while goes_on && served.taken < most && !buffer.is_empty() {
-            let length = descriptor.recv(buffer).unwrap_or(0);
-            if length == 0 {
-                served.taken += u32::from(mistake == Mistake::EmptyReadTaken);
-                break;
-            }
-            served.taken += 1;
-            let (way, told) = taker.packet(&mut buffer[..length]);
-            let counter = &mut counters[mistake.counter(way, told)];
-            *counter = counter.wrapping_add(1);
-            served.unsent += mistake.unsent(descriptor, &buffer[..length], told);
-            if taker.stops(told) {
-                break;
-            }
-        }
-        served
-    }
-}
-
-impl Mistake {
-    fn counter(self, way: Way, told: Told) -> usize {
-        let way = way as usize ^ usize::from(self == Mistake::CountedForOtherWay);
-        let place = refusal::ALL.iter().position(|&number| u32::from(number) == told.refusal);
-        let answer = match place {
-            None => told.change as usize - 1,
-            Some(place) if self == Mistake::CountedWithoutGaps => 3 + place,
-            Some(_) => told.refusal as usize + 2,
-        };
-        EACH_WAY * way + answer
-    }
-
-    /// Writes the packet if it is to be written, and tells how often that failed.
-    fn unsent(self, descriptor: &UnixDatagram, packet: &[u8], told: Told) -> u32 {
-        let times = match (self, told.refusal) {
-            (Mistake::RefusedWritten, _) => 1,
-            (Mistake::AcceptedWrittenTwice, 0) => 2,
-            (_, 0) => 1,
-            _ => 0,
-        };
-        let failed = (0..times).filter(|_| descriptor.send(packet).is_err()).count();
-        if self == Mistake::UnsentNotCounted {
-            0
-        } else {
-            failed as u32
-        }
+        serve(self.in_serves, lent)
     }
 }

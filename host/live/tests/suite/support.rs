@@ -9,6 +9,7 @@ use live::instance::Instance;
 use live::log::line::Form;
 use live::log::output::Output;
 use live::log::Log;
+use nidhaaguf::Trace;
 use reference::packets::{self, End, RST, SYN};
 use std::fs::{self, OpenOptions};
 use std::os::unix::net::UnixDatagram;
@@ -65,7 +66,7 @@ pub fn pass(instance: &mut Instance, packet: &[u8]) -> Option<Vec<u8>> {
     link.set_nonblocking(true).unwrap();
     link.send(packet).unwrap();
     let mut buffer = [0; 2_048];
-    assert_eq!(instance.serve(&device, &mut buffer, 1).unwrap().taken, 1);
+    assert_eq!(instance.serve(&device, &mut Trace::new(1), 1).unwrap().taken, 1);
     let length = link.recv(&mut buffer).ok()?;
     Some(buffer[..length].to_vec())
 }

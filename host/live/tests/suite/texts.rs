@@ -3,6 +3,7 @@
 use crate::support::*;
 use live::control::{metrics, status};
 use live::instance::Instance;
+use nidhaaguf::Trace;
 use std::os::unix::net::UnixDatagram;
 use std::time::Duration;
 
@@ -78,7 +79,7 @@ fn fail_to_write(instance: &mut Instance) {
     let (link, device) = UnixDatagram::pair().unwrap();
     link.send(&syn(1)).unwrap();
     drop(link);
-    assert_eq!(instance.serve(&device, &mut [0; 2_048], 1).unwrap().unsent, 1);
+    assert_eq!(instance.serve(&device, &mut Trace::new(1), 1).unwrap().unsent, 1);
 }
 
 /// Each refusal that packets can have is told under its number, each way; no other number is.

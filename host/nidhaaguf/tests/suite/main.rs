@@ -7,3 +7,4 @@ mod resumes;
 mod serves;
 mod signals;
 mod support;
+mod traces;

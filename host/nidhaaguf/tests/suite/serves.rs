@@ -1,12 +1,12 @@
 //! Packets that come by a descriptor.
 
 use crate::support::{settings, syn_from, turned, SYN};
-use nidhaaguf::{Change, Counters, Director, End, Refusal, Served, Way};
+use nidhaaguf::{Change, Counters, Director, End, Refusal, Served, Trace, Way};
 use std::io::ErrorKind;
 use std::os::unix::net::UnixDatagram;
 
 /// A director with one server and one slot, its descriptor (which doesn't wait) and the other end of that.
-fn scene() -> (Director, UnixDatagram, UnixDatagram) {
+pub fn scene() -> (Director, UnixDatagram, UnixDatagram) {
     let director = Director::set_up(&settings(1), 1).unwrap();
     let (device, other_end) = UnixDatagram::pair().unwrap();
     device.set_nonblocking(true).unwrap();
@@ -20,12 +20,12 @@ fn serve(
     counters: &mut Counters,
     clock: u32,
 ) -> Result<Served, Refusal> {
-    director.serve(device, &mut [0; 2_048], counters, clock, 3)
+    director.serve(device, &mut Trace::new(3), counters, clock, 3, None)
 }
 
 /// The next packet that was written.
-fn next(other_end: &UnixDatagram) -> Option<Vec<u8>> {
-    let mut packet = [0; 2_048];
+pub fn next(other_end: &UnixDatagram) -> Option<Vec<u8>> {
+    let mut packet = vec![0; 65_536];
     other_end.recv(&mut packet).ok().map(|length| packet[..length].to_vec())
 }
 

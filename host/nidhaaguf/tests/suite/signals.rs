@@ -1,7 +1,7 @@
 //! A signal ends a serve that waits.
 
 use crate::support::settings;
-use nidhaaguf::{Counters, Director, End, Served};
+use nidhaaguf::{Counters, Director, End, Served, Trace};
 use std::io::ErrorKind;
 use std::os::unix::net::UnixDatagram;
 use std::sync::mpsc;
@@ -21,7 +21,7 @@ extern "C" fn nothing(_: i32) {}
 
 fn wait_for_a_packet(device: &UnixDatagram) -> Served {
     let mut director = Director::set_up(&settings(1), 1).unwrap();
-    director.serve(device, &mut [0; 2_048], &mut Counters::new(), 1, 1).unwrap()
+    director.serve(device, &mut Trace::new(1), &mut Counters::new(), 1, 1, None).unwrap()
 }
 
 #[test]

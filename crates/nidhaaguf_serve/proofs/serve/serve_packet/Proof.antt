@@ -12,17 +12,26 @@ use Rattle.nidhaaguf_serve.proofs.serve.serve_packet.Tie as tie
 
 returns : tie.Need-returns
 returns c =
-    let t = c .before .before .before .before .before .before in
-    let known = t .before .before .before .before in
+    let t = c .before .before .before .before .before .before .before .before .before in
+    let known = t .before .before .before .before .before .before in
     let a = known .before .before .args in
-    let bytes : Bytes (now (a .packet)) = record { at = λ (i : ℕ). omega (arith, known .slice-known2 .given i) } in (
-      (search needs, search needs),
+    let bytes : Bytes (now (a .packet)) = record { at = λ (i : ℕ). omega (arith, known .slice-known2 .given i) } in
+    let e = t .take-told .ensures in (
+      (search needs, search needs, search needs, search needs),
       (
-        t .take-counted .ensures .0,
-        served-once (a .director) (now (a .row)) (now (a .counters)) (now (a .packet)) (carriedBy (a .director) (t .take-counted .result)) _ _ _ bytes (t .take-counted .ensures .1 .0) (t .take-counted .ensures .1 .1),
+        e .0,
+        λ before. served-once (a .director) (now (a .row)) (now (a .counters)) (now (a .records)) (now (a .packet)) (a .k) before (carriedBy (a .director) (t .take-told .result)) _ _ _ _ bytes (e .1 .0) (e .1 .1 .0) (e .1 .1 .1),
       ),
     )
 
 pub serve-packet-spec : {M : Type 1} → statement M
 serve-packet-spec =
-    tie.close (tie.spec (λ c κs. search needs) (λ c κs. search needs) (λ c. search needs) (λ c. search needs) returns)
+    tie.close
+    (tie.spec
+    (λ c κs. search needs)
+    (λ c κs. search needs)
+    (λ c κs. search needs)
+    (λ c. search needs)
+    (λ c. search needs)
+    (λ c. search needs)
+    returns)

@@ -1,16 +1,15 @@
--- `burst::write_record` meets its contract: a store keeps the length.
+-- `told::write_told` meets its contract: a store keeps the length.
 -- Assumes nothing.
 use native.Mathlib.Omega.{arith}
 use lib.ListN.{length-set}
 use borrow.Author.Needs.{needs}
-use Rattle.serving.proofs.burst.write_record.Statement.{statement}
-use Rattle.serving.proofs.burst.write_record.Tie as tie
+use Rattle.serving.proofs.told.write_told.Statement.{statement}
+use Rattle.serving.proofs.told.write_told.Tie as tie
 
-pub write-record-spec : {M : Type 1} → statement M
-write-record-spec =
+pub write-told-spec : {M : Type 1} → statement M
+write-told-spec =
     tie.close
     (tie.spec
-    (λ c. search needs)
     (λ c. search needs)
     (λ c. search needs)
     (λ c. search needs)
