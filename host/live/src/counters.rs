@@ -15,18 +15,26 @@ pub const CHANGES: [(Change, &str); 3] =
 pub struct Counters {
     /// The library's answers to packets.
     pub packets: nidhaaguf::Counters,
-    /// Accepted packets that the device didn't take.
+    /// Packets that the device didn't take.
     pub write_failures: u64,
     /// Connections removed because they were idle.
     pub idle_removed: u64,
+    /// Resets that were sent for packets of unknown connections.
+    pub resets_sent: u64,
+    /// Resets that were not, since so many are sent in a second already.
+    pub resets_unsent: u64,
+    /// Packets of IPv6, by way. The library refuses them as malformed.
+    pub ipv6: [u64; WAYS.len()],
 }
 
 impl Counters {
-    /// How many times a connection was opened or went.
-    pub fn connection_changes(&self) -> u64 {
-        let count = |way, change| self.packets.accepted(way, change);
-        let changes = WAYS.map(|(way, _)| count(way, Change::Opened) + count(way, Change::Ended));
-        changes.iter().sum::<u64>() + self.idle_removed
+    /// Packets that were refused so, without those of IPv6.
+    pub fn refused(&self, way: Way, refusal: Refusal) -> u64 {
+        let refused = self.packets.refused(way, refusal);
+        match refusal {
+            Refusal::MalformedHeader => refused.saturating_sub(self.ipv6[way as usize]),
+            _ => refused,
+        }
     }
 }
 
@@ -38,9 +46,10 @@ impl fmt::Display for Counters {
             for (change, name) in CHANGES {
                 write!(out, "{} {name}, ", self.packets.accepted(way, change))?;
             }
-            let refused = Refusal::ALL.map(|refusal| self.packets.refused(way, refusal));
+            let refused = Refusal::ALL.map(|refusal| self.refused(way, refusal));
             write!(out, "{} refused; ", refused.iter().sum::<u64>())?;
         }
+        write!(out, "{} of IPv6; ", self.ipv6.iter().sum::<u64>())?;
         write!(out, "{} removed as idle; ", self.idle_removed)?;
         write!(out, "{} not taken by the device", self.write_failures)
     }

@@ -7,14 +7,21 @@
 #![deny(unsafe_code)]
 #![warn(missing_docs)]
 
+pub mod book;
+pub mod client;
 pub mod clock;
 pub mod config;
 pub mod control;
 pub mod counters;
+pub mod device;
 pub mod handover;
 pub mod instance;
 pub mod log;
+pub mod packet;
 pub mod packet_thread;
+pub mod policy;
+pub mod routes;
+pub mod segments;
 pub mod serve;
 pub mod start;
 #[allow(unsafe_code)]

@@ -68,6 +68,8 @@ impl Around<'_> {
         // first the tick: what a command tells is true at the clock that it tells
         instance.tick(since_boot);
         let taker = self.control.answer(instance, &mut self.reload, self.log, now);
+        // also what the tick had to send: nothing may wait here when the director is handed over
+        instance.send(self.packets.device());
         self.log.look(instance);
         (now + instance.until_tick(since_boot), taker)
     }

@@ -60,7 +60,13 @@ pub fn start(
             (instance, None)
         }
     };
-    Ok(Started { instance, packets, control, words })
+    Ok(Started { instance: serving(instance, config), packets, control, words })
+}
+
+/// With what the configuration says of its service, whoever served before.
+fn serving(mut instance: Instance, config: &Config) -> Instance {
+    instance.set_policy(config.policy());
+    instance.with_device(&config.device.value)
 }
 
 /// The director of the state file; None where there is none, or none that can be used.
@@ -91,7 +97,7 @@ pub fn take_over(config: &Config, speed: u32, log: &mut Log) -> Result<Started, 
     let control = Control::new(Socket::adopt(listener, &config.socket.value), Instant::now());
     let (instance, words) = go_on("took over", resumed, config, log);
     put_older_aside(&config.state.value, log);
-    Ok(Started { instance, packets, control, words: Some(words) })
+    Ok(Started { instance: serving(instance, config), packets, control, words: Some(words) })
 }
 
 /// A state file that is there at a take-over is of before it, and no later start may use it.

@@ -1,12 +1,13 @@
 //! The TUN device: a network interface whose packets this process reads and writes.
 
 use crate::system;
-use std::fs::{File, OpenOptions};
-use std::io::{ErrorKind, Read, Write};
+use std::fs::{self, File, OpenOptions};
+use std::io::{self, ErrorKind, Read, Write};
 use std::os::fd::{AsRawFd, OwnedFd, RawFd};
 
-const EBUSY: i32 = 16;
 const EPERM: i32 = 1;
+const EBUSY: i32 = 16;
+const EINVAL: i32 = 22;
 
 /// An open TUN device. Closed, the interface goes away.
 #[derive(Debug)]
@@ -23,14 +24,7 @@ impl Tun {
             .write(true)
             .open("/dev/net/tun")
             .map_err(|error| format!("/dev/net/tun can't be opened: {error}"))?;
-        system::set_interface(&file, name).map_err(|error| {
-            let hint = match error.raw_os_error() {
-                Some(EBUSY) => " (another program has it open)",
-                Some(EPERM) => " (that takes root, or the capability CAP_NET_ADMIN)",
-                _ => "",
-            };
-            format!("the device {name} can't be created: {error}{hint}")
-        })?;
+        system::set_interface(&file, name).map_err(|error| complaint(name, &error))?;
         Ok(Tun { file, name: name.to_string() })
     }
 
@@ -47,6 +41,27 @@ impl Tun {
     pub fn write(&self, packet: &[u8]) -> bool {
         (&self.file).write(packet).is_ok()
     }
+}
+
+/// Why the device isn't there.
+fn complaint(name: &str, error: &io::Error) -> String {
+    let hint = match error.raw_os_error() {
+        Some(EBUSY) => " (another program has it open)",
+        Some(EPERM) => " (that takes root, or the capability CAP_NET_ADMIN)",
+        Some(EINVAL) if is_interface(name) => {
+            let expected = "expected a TUN device of one queue, or a name that no interface has";
+            return format!("the device {name} can't be used: {expected}, got another interface");
+        }
+        _ => "",
+    };
+    format!("the device {name} can't be created: {error}{hint}")
+}
+
+/// Whether there is a network interface of that name, as Linux lists them: `name: counts`, after two lines of titles.
+fn is_interface(name: &str) -> bool {
+    let listed = fs::read_to_string("/proc/thread-self/net/dev").unwrap_or_default();
+    let names = listed.lines().skip(2).filter_map(|line| line.split(':').next());
+    names.map(str::trim).any(|listed| listed == name)
 }
 
 impl AsRawFd for Tun {

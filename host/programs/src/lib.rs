@@ -25,6 +25,14 @@ pub const SETPRIV: Program = Program::named("setpriv");
 pub const SCRIPT: Program = Program::named("script");
 /// A shell, for what a document tells to type.
 pub const BASH: Program = Program::named("bash");
+/// JSON, read by another program than its writer.
+pub const JQ: Program = Program::named("jq");
+/// Prometheus' checks of rules and metrics.
+pub const PROMTOOL: Program = Program::named("promtool");
+/// Checks of shell scripts.
+pub const SHELLCHECK: Program = Program::named("shellcheck");
+/// Manual pages.
+pub const MANDOC: Program = Program::named("mandoc");
 /// Signals.
 pub const KILL: Program = Program::named("kill");
 /// Copies of files and directories.
@@ -53,8 +61,10 @@ pub const NIDHAAGUFCTL: Program = Program::named("nidhaagufctl");
 pub const IMPAIR: Program = Program::named("impair");
 /// Sends packets on by fixed addresses.
 pub const COPIER: Program = Program::named("copier");
-/// Fills the director's table with clients that don't exist.
+/// Sends SYNs of clients that don't exist.
 pub const FILL: Program = Program::named("fill");
+/// Sends a segment with forged addresses.
+pub const FORGE: Program = Program::named("forge");
 /// Waits.
 pub const SLEEP: Program = Program::named("sleep");
 

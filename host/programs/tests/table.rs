@@ -6,9 +6,9 @@ use std::fs;
 use std::path::{Path, PathBuf};
 
 /// Who may start programs: all drills, one of them, the tests, the benchmark.
-const STARTERS: [&str; 10] = [
-    "drills", "drain", "ports", "upgrade", "impaired", "death", "compare", "profile", "tests",
-    "bench",
+const STARTERS: [&str; 13] = [
+    "drills", "drain", "ports", "upgrade", "flood", "impaired", "death", "forged", "operator",
+    "compare", "profile", "tests", "bench",
 ];
 
 #[test]

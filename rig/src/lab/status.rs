@@ -3,6 +3,11 @@
 use crate::lab::Failure;
 use std::str::FromStr;
 
+const TITLES: [&str; 7] =
+    ["number", "address", "weight", "connections", "open", "finished", "state"];
+/// Those of earlier programs, beside which this one's throughput is measured: they don't tell open and finished apart.
+const EARLIER: [&str; 5] = ["number", "address", "weight", "connections", "state"];
+
 /// How a server stands.
 #[derive(Clone, Copy, Debug, PartialEq, Eq)]
 pub enum Standing {
@@ -12,6 +17,8 @@ pub enum Standing {
     Draining,
     /// It receives none, and has none.
     MayBeUnplugged,
+    /// It is said to be down, and so receives none, whatever its weight.
+    Down,
 }
 
 /// A server's line of the table.
@@ -25,6 +32,10 @@ pub struct Row {
     pub weight: u16,
     /// Its connections.
     pub connections: u32,
+    /// Those that aren't finished.
+    pub open: u32,
+    /// Those that both ends have finished.
+    pub finished: u32,
     /// How it stands.
     pub standing: Standing,
 }
@@ -50,10 +61,11 @@ impl FromStr for Status {
         let mut lines = text.lines();
         let (used, slots, clock) = lines.next().and_then(first_line).ok_or_else(strange)?;
         let names: Vec<&str> = lines.next().ok_or_else(strange)?.split_whitespace().collect();
-        let rows: Option<Vec<Row>> = lines.map(row).collect();
+        let is_earlier = names == EARLIER;
+        let rows: Option<Vec<Row>> = lines.map(|line| row(line, is_earlier)).collect();
         let rows = rows.ok_or_else(strange)?;
         let in_order = rows.iter().enumerate().all(|(k, row)| row.number == k);
-        if names != ["number", "address", "weight", "connections", "state"] || !in_order {
+        if !is_earlier && names != TITLES || !in_order {
             return Err(strange());
         }
         Ok(Status { used, slots, clock, rows })
@@ -68,24 +80,34 @@ fn first_line(line: &str) -> Option<(u32, u32, u32)> {
     Some((used.parse().ok()?, slots.parse().ok()?, clock.parse().ok()?))
 }
 
-fn row(line: &str) -> Option<Row> {
-    let words: Vec<&str> = line.split_whitespace().collect();
-    let [number, address, weight, connections, state @ ..] = words.as_slice() else {
+/// A line whose open and finished connections add up to all of them.
+fn row(line: &str, is_earlier: bool) -> Option<Row> {
+    let mut words: Vec<&str> = line.split_whitespace().collect();
+    if is_earlier {
+        let connections = *words.get(3)?;
+        words.splice(4..4, [connections, "0"]);
+    }
+    let [number, address, weight, connections, open, finished, state @ ..] = words.as_slice()
+    else {
         return None;
     };
     let standing = match state.join(" ").as_str() {
         "in service" => Standing::InService,
         "draining" => Standing::Draining,
         "may be unplugged" => Standing::MayBeUnplugged,
+        "down" | "down, draining" | "down, may be unplugged" => Standing::Down,
         _ => return None,
     };
-    Some(Row {
+    let row = Row {
         number: number.parse().ok()?,
         address: address.to_string(),
         weight: weight.parse().ok()?,
         connections: connections.parse().ok()?,
+        open: open.parse().ok()?,
+        finished: finished.parse().ok()?,
         standing,
-    })
+    };
+    (row.open + row.finished == row.connections).then_some(row)
 }
 
 #[cfg(test)]
@@ -94,7 +116,8 @@ impl Status {
     pub fn of_counts(clock: u32, counts: &[u32]) -> Status {
         let row = |(number, &connections)| {
             let (address, weight, standing) = (String::new(), 1, Standing::InService);
-            Row { number, address, weight, connections, standing }
+            let (open, finished) = (connections, 0);
+            Row { number, address, weight, connections, open, finished, standing }
         };
         let rows = counts.iter().enumerate().map(row).collect();
         Status { used: counts.iter().sum(), slots: 4096, clock, rows }
@@ -107,10 +130,12 @@ mod tests {
 
     const TEXT: &str = "\
 service 192.0.2.10:5432 tcp, least-connection, 7 of 4096 slots used, clock 1234
-number  address        weight  connections  state
-0       10.1.0.5:6432  1       3            in service
-1       10.2.0.5:6432  0       2            draining
-2       10.3.0.5:6432  0       0            may be unplugged
+number  address        weight  connections  open  finished  state
+0       10.1.0.5:6432  1       3            1     2         in service
+1       10.2.0.5:6432  0       2            2     0         draining
+2       10.3.0.5:6432  0       0            0     0         may be unplugged
+3       10.4.0.5:6432  1       2            2     0         down
+4       10.5.0.5:6432  0       0            0     0         down, may be unplugged
 ";
 
     #[test]
@@ -120,15 +145,31 @@ number  address        weight  connections  state
         let rows: Vec<_> = status
             .rows
             .iter()
-            .map(|row| (row.number, row.weight, row.connections, row.standing))
+            .map(|row| (row.number, row.weight, row.connections, row.finished, row.standing))
             .collect();
         let want = [
-            (0, 1, 3, Standing::InService),
-            (1, 0, 2, Standing::Draining),
-            (2, 0, 0, Standing::MayBeUnplugged),
+            (0, 1, 3, 2, Standing::InService),
+            (1, 0, 2, 0, Standing::Draining),
+            (2, 0, 0, 0, Standing::MayBeUnplugged),
+            (3, 1, 2, 0, Standing::Down),
+            (4, 0, 0, 0, Standing::Down),
         ];
         assert_eq!(rows, want);
         assert_eq!(status.rows[2].address, "10.3.0.5:6432");
+    }
+
+    #[test]
+    fn a_status_of_an_earlier_program_is_read() {
+        let text = "\
+service 192.0.2.10:5432 tcp, least-connection, 3 of 4096 slots used, clock 1234
+number  address        weight  connections  state
+0       10.1.0.5:6432  1       3            in service
+";
+        let status: Status = text.parse().unwrap();
+        let row = &status.rows[0];
+        assert_eq!((row.connections, row.open, row.finished), (3, 3, 0));
+        assert!(text.replace("  state", "  open  state").parse::<Status>().is_err());
+        assert!(text.replace("            in", "").parse::<Status>().is_err());
     }
 
     #[test]
@@ -140,6 +181,7 @@ number  address        weight  connections  state
             ("connections", "count"),
             ("1       10.2", "5       10.2"),
             ("      3  ", "      -3 "),
+            ("1     2 ", "1     1 "),
         ] {
             let text = TEXT.replacen(from, to, 1);
             assert_ne!(text, TEXT, "{from} is in the text");

@@ -21,6 +21,9 @@ usage: nidhaagufd --config FILE [--take-over] [flags]
                         device nid0                      (optional: the TUN device, created where it isn't there)
                         socket /run/nidhaaguf.sock       (optional: the control socket of nidhaagufctl)
                         state /run/nidhaaguf.sock.state  (optional: where the connections are kept from one start to the next)
+                        unknown reset 200                (optional: packets of unknown TCP connections are answered with resets,
+                                                          at most so many a second; or `unknown drop`)
+                        opening-timeout 30               (optional: seconds that a TCP connection may be opening; 0 for ever)
   --take-over         take the connections, the device and the control socket over from the nidhaagufd that serves there now;
                       where that can't be, it serves on
   --device NAME       this device instead
@@ -34,6 +37,8 @@ usage: nidhaagufd --config FILE [--take-over] [flags]
 
 SIGTERM, SIGINT and SIGQUIT end it, with its connections kept for the next start. SIGHUP reads the configuration anew and sets the
 weights that have changed in it.
+
+Exit status: 0 ended by a signal, or handed over; 1 something failed; 2 wrong usage or a bad configuration.
 ";
 
 /// What the command line asks for.

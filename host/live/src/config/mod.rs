@@ -7,6 +7,7 @@ pub mod reload;
 pub mod setup;
 pub mod words;
 
+use crate::policy::{Policy, Unknown};
 use flags::Flags;
 use given::Given;
 use nidhaaguf::{Protocol, Scheduler, Server, Settings};
@@ -20,6 +21,8 @@ use std::path::{Path, PathBuf};
 pub const DEFAULT_SOCKET: &str = "/run/nidhaaguf.sock";
 const DEFAULT_DEVICE: &str = "nid0";
 const DEFAULT_SLOTS: usize = 4_096;
+const DEFAULT_RESETS: u32 = 200;
+const DEFAULT_OPENING_TIMEOUT: u32 = 30;
 
 /// More than any good file has: the wrong file is not read to its end.
 const MOST_BYTES: u64 = 65_536;
@@ -42,6 +45,10 @@ pub struct Config {
     pub socket: Given<PathBuf>,
     /// The state file's path.
     pub state: Given<PathBuf>,
+    /// What becomes of packets of unknown connections.
+    pub unknown: Given<Unknown>,
+    /// So many seconds a TCP connection may be opening; 0 for any time.
+    pub opening_timeout: Given<u32>,
     /// The servers by number.
     pub servers: Vec<Given<Server>>,
 }
@@ -83,6 +90,27 @@ impl Config {
         let servers = self.servers.iter().map(|server| server.value).collect();
         Settings { service, protocol, scheduler: self.scheduler.value, servers }
     }
+
+    /// What may be changed beside the weights while the director serves.
+    pub fn policy(&self) -> Policy {
+        Policy { unknown: self.unknown.value, opening_timeout: self.opening_timeout.value }
+    }
+
+    /// What is for TCP alone is not said of UDP.
+    fn checked(self) -> Result<Config, String> {
+        let Policy { unknown, opening_timeout } = self.policy();
+        let (place, form, got) = match (self.service.value.1, unknown, opening_timeout) {
+            (Protocol::Tcp, ..) | (_, Unknown::Drop, 0) => return Ok(self),
+            (_, Unknown::Reset(_), _) => {
+                (&self.unknown.place, "unknown drop", format!("unknown {unknown}"))
+            }
+            (_, Unknown::Drop, seconds) => {
+                let place = &self.opening_timeout.place;
+                (place, "opening-timeout 0", format!("opening-timeout {seconds}"))
+            }
+        };
+        Err(format!("{place}: expected `{form}` for udp, got {got:?}"))
+    }
 }
 
 fn open_regular(path: &Path) -> io::Result<File> {
@@ -113,6 +141,8 @@ struct Draft {
     device: Option<Given<String>>,
     socket: Option<Given<PathBuf>>,
     state: Option<Given<PathBuf>>,
+    unknown: Option<Given<Unknown>>,
+    opening_timeout: Option<Given<u32>>,
     servers: Vec<Given<Server>>,
 }
 
@@ -132,6 +162,14 @@ impl Draft {
             ("device", [word]) => put(&mut self.device, word.to_string(), place),
             ("socket", [word]) => put(&mut self.socket, PathBuf::from(word), place),
             ("state", [word]) => put(&mut self.state, PathBuf::from(word), place),
+            ("unknown", ["drop"]) => put(&mut self.unknown, Unknown::Drop, place),
+            ("unknown", ["reset"]) => put(&mut self.unknown, Unknown::Reset(DEFAULT_RESETS), place),
+            ("unknown", ["reset", most]) => {
+                put(&mut self.unknown, Unknown::Reset(words::resets(most)?), place)
+            }
+            ("opening-timeout", [word]) => {
+                put(&mut self.opening_timeout, words::opening_timeout(word)?, place)
+            }
             ("server", [at, "weight", weight]) => {
                 let server = Server { at: words::address(at)?, weight: words::weight(weight)? };
                 self.servers.push(Given::new(server, place));
@@ -153,16 +191,31 @@ impl Draft {
         let socket = || Given::new(DEFAULT_SOCKET.into(), &by_default("socket"));
         let socket = flags.socket.or(self.socket).unwrap_or_else(socket);
         let state = || Given::new(beside(&socket.value), &by_default("state"));
-        Ok(Config {
+        let service = self.service.ok_or_else(|| missing("service"))?;
+        let policy = default_policy(service.value.1);
+        let unknown = || Given::new(policy.unknown, &by_default("unknown"));
+        let timeout = || Given::new(policy.opening_timeout, &by_default("opening-timeout"));
+        let config = Config {
             name: name.to_string(),
             state: self.state.unwrap_or_else(state),
-            service: self.service.ok_or_else(|| missing("service"))?,
+            service,
             scheduler,
             slots: flags.slots.or(self.slots).unwrap_or_else(slots),
             device: flags.device.or(self.device).unwrap_or_else(device),
             socket,
+            unknown: self.unknown.unwrap_or_else(unknown),
+            opening_timeout: self.opening_timeout.unwrap_or_else(timeout),
             servers: self.servers,
-        })
+        };
+        config.checked()
+    }
+}
+
+fn default_policy(protocol: Protocol) -> Policy {
+    let (unknown, opening_timeout) = (Unknown::Reset(DEFAULT_RESETS), DEFAULT_OPENING_TIMEOUT);
+    match protocol {
+        Protocol::Tcp => Policy { unknown, opening_timeout },
+        Protocol::Udp => Policy::NONE,
     }
 }
 
@@ -187,7 +240,8 @@ fn put<T>(setting: &mut Option<Given<T>>, value: T, place: &str) -> Result<(), S
 fn expected(name: &str, setting: &str) -> String {
     match form(name) {
         "" => format!(
-            "expected a setting: service, scheduler, slots, device, socket, state or server, got {name:?}"
+            "expected a setting: service, scheduler, slots, device, socket, state, unknown, \
+             opening-timeout or server, got {name:?}"
         ),
         form => format!("{form}, got {setting:?}"),
     }
@@ -202,6 +256,8 @@ fn form(name: &str) -> &'static str {
         "device" => "expected `device NAME`",
         "socket" => "expected `socket PATH`, without spaces",
         "state" => "expected `state PATH`, without spaces",
+        "unknown" => "expected `unknown reset`, `unknown reset NUMBER` or `unknown drop`",
+        "opening-timeout" => "expected `opening-timeout SECONDS`",
         "server" => "expected `server ADDRESS:PORT weight NUMBER`",
         _ => "",
     }

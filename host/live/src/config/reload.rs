@@ -1,11 +1,14 @@
-//! The configuration read anew while the director serves: its changed weights are set, and any other change is refused.
+//! The configuration read anew while the director serves: its changed weights are set, what it says of unknown connections and late
+//! openings is kept, and any other change is refused.
 
 use crate::config::compare::{difference, Difference};
 use crate::config::flags::Flags;
 use crate::config::given::Given;
 use crate::config::{setup, Config};
 use crate::instance::{Instance, WeightChange};
+use crate::policy::Policy;
 use nidhaaguf::{Server, Settings};
+use std::fmt;
 
 /// What a reload needs.
 #[derive(Debug)]
@@ -27,27 +30,56 @@ impl Reload {
         self.read = Some(load(&self.flags));
     }
 
-    /// Sets the weights that have changed in the file, all or none.
-    pub fn apply(&mut self, instance: &mut Instance) -> Result<Vec<WeightChange>, String> {
+    /// Applies what has changed in the file, all or nothing.
+    pub fn apply(&mut self, instance: &mut Instance) -> Result<Vec<Applied>, String> {
         let read = self.read.take().unwrap_or_else(|| load(&self.flags));
         let applied = read.and_then(|config| self.apply_read(&config, instance));
         applied.map_err(|complaint| format!("{complaint}; nothing was changed"))
     }
 
-    fn apply_read(
-        &self,
-        config: &Config,
-        instance: &mut Instance,
-    ) -> Result<Vec<WeightChange>, String> {
+    fn apply_read(&self, config: &Config, instance: &mut Instance) -> Result<Vec<Applied>, String> {
         let mut changes = Vec::new();
         for (server, weight) in changed_weights(config, &self.started, instance.settings())? {
             // never refused: the server is there
             let change = instance.set_weight(server, weight);
-            changes.extend(change.map_err(|refusal| refusal.to_string())?);
+            let change = change.map_err(|refusal| refusal.to_string())?;
+            changes.extend(change.map(Applied::Weight));
         }
+        changes.extend(other_policy(instance.policy(), config.policy()));
+        instance.set_policy(config.policy());
         instance.keep_settings(config.settings());
         Ok(changes)
     }
+}
+
+/// A change that a reload has made, as it is told.
+#[derive(Clone, Debug, PartialEq, Eq)]
+pub enum Applied {
+    /// Of a weight.
+    Weight(WeightChange),
+    /// Of another setting, by its name: what it was, and what it is.
+    Setting(&'static str, String, String),
+}
+
+impl fmt::Display for Applied {
+    fn fmt(&self, out: &mut fmt::Formatter<'_>) -> fmt::Result {
+        match self {
+            Applied::Weight(change) => write!(out, "{change}"),
+            Applied::Setting(name, old, new) => write!(out, "{name} {old} -> {new}"),
+        }
+    }
+}
+
+fn other_policy(old: Policy, new: Policy) -> impl Iterator<Item = Applied> {
+    let words = |policy: Policy| {
+        [
+            ("unknown", policy.unknown.to_string()),
+            ("opening-timeout", policy.opening_timeout.to_string()),
+        ]
+    };
+    let pairs = words(old).into_iter().zip(words(new));
+    let others = pairs.filter(|(old, new)| old != new);
+    others.map(|((name, old), (_, new))| Applied::Setting(name, old, new))
 }
 
 /// A configuration that a start would take.

@@ -20,8 +20,21 @@ pub fn set_up(config: &Config) -> Result<Director, String> {
     if *state == config.socket.value {
         return Err(format!("{place}: the control socket and the state file need a path each"));
     }
-    Director::set_up(&config.settings(), config.slots.value)
-        .map_err(|refusal| explained(config, refusal))
+    let director = Director::set_up(&config.settings(), config.slots.value)
+        .map_err(|refusal| explained(config, refusal))?;
+    check_servers(config).map(|()| director)
+}
+
+/// A server that is the service itself would get its own packets back.
+fn check_servers(config: &Config) -> Result<(), String> {
+    let (service, _) = config.service.value;
+    match config.servers.iter().find(|server| server.value.at == service) {
+        None => Ok(()),
+        Some(Given { place, .. }) => {
+            let expected = "expected a server's own address and port";
+            Err(format!("{place}: {expected}, got those of the service, {service}"))
+        }
+    }
 }
 
 fn check_device(device: &Given<String>) -> Result<(), String> {

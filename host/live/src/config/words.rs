@@ -2,6 +2,7 @@
 
 use nidhaaguf::{Protocol, Scheduler};
 use std::net::SocketAddrV4;
+use std::ops::RangeInclusive;
 use std::str::FromStr;
 
 const SCHEDULERS: [(Scheduler, &str); 4] = [
@@ -72,4 +73,22 @@ pub fn number<T: FromStr>(word: &str, expected: &str) -> Result<T, String> {
 /// How many connections there is room for: the bounds are the library's to check.
 pub fn slots(word: &str) -> Result<usize, String> {
     number(word, "a number of slots, 1 to 4096")
+}
+
+/// How many resets may be sent in a second.
+pub fn resets(word: &str) -> Result<u32, String> {
+    number_within(word, "resets a second, 1 to 10000", 1..=10_000)
+}
+
+/// How many seconds a connection may be opening. Later it would be idle anyway.
+pub fn opening_timeout(word: &str) -> Result<u32, String> {
+    number_within(word, "seconds, 0 to 900", 0..=900)
+}
+
+fn number_within(word: &str, expected: &str, range: RangeInclusive<u32>) -> Result<u32, String> {
+    let found = number(word, expected)?;
+    range
+        .contains(&found)
+        .then_some(found)
+        .ok_or_else(|| format!("expected {expected}, got {word:?}"))
 }

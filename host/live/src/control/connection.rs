@@ -1,14 +1,15 @@
 //! One client of the control socket: it says one command and reads the answer.
 
+use crate::control::commands::Text;
 use crate::system::Waited;
 use std::io::{ErrorKind, Read, Write};
 use std::os::unix::net::UnixStream;
 use std::time::{Duration, Instant};
 
-/// The longest command, without its line end.
-pub const MOST_COMMAND: usize = 256;
+/// The longest command, without its line end: the weights of 64 servers, each named by its address, are shorter.
+pub const MOST_COMMAND: usize = 2_048;
 
-/// A client must have said its command, and then have read its answer, within this time.
+/// A client must have said its command within this time, and then go on reading its answer: so long it may take nothing of it.
 pub const PATIENCE: Duration = Duration::from_secs(5);
 
 /// How far a client has come.
@@ -33,6 +34,8 @@ pub struct Connection {
     input: Vec<u8>,
     input_ended: bool,
     output: Vec<u8>,
+    /// What comes after it, and is made when the director is lent to the packet thread again.
+    rest: Option<Text>,
     deadline: Instant,
 }
 
@@ -46,6 +49,7 @@ impl Connection {
             input: Vec::new(),
             input_ended: false,
             output: Vec::new(),
+            rest: None,
             deadline: now + PATIENCE,
         }
     }
@@ -72,7 +76,7 @@ impl Connection {
             Stage::Watching { .. } => true,
             Stage::Answering | Stage::Over => false,
         };
-        Waited::new(&self.stream, reads, !self.output.is_empty())
+        Waited::new(&self.stream, reads, !self.output.is_empty() || self.rest.is_some())
     }
 
     /// Whether a whole command is there, and not answered yet.
@@ -94,6 +98,19 @@ impl Connection {
     pub fn answer(&mut self, text: &str, now: Instant) {
         self.stage = Stage::Answering;
         self.send(text, now);
+    }
+
+    /// Answers the command by a text that may be made later; it comes after these words.
+    pub fn answer_by(&mut self, words: &str, text: Text, now: Instant) {
+        match text {
+            Text::Made(text) => self.answer(&format!("{words}{text}"), now),
+            text => {
+                self.stage = Stage::Answering;
+                self.output.extend_from_slice(words.as_bytes());
+                self.deadline = now + PATIENCE;
+                self.rest = Some(text);
+            }
+        }
     }
 
     /// Answers a watch, and remembers what was shown.
@@ -135,17 +152,17 @@ impl Connection {
     }
 
     /// Reads and writes what is possible now.
-    pub fn exchange(&mut self) {
+    pub fn exchange(&mut self, now: Instant) {
         if matches!(self.stage, Stage::Asking | Stage::Watching { .. }) {
             self.receive();
         }
-        self.write();
+        self.write(now);
     }
 
     fn send(&mut self, text: &str, now: Instant) {
         self.output.extend_from_slice(text.as_bytes());
         self.deadline = now + PATIENCE;
-        self.write();
+        self.write(now);
     }
 
     fn receive(&mut self) {
@@ -162,12 +179,18 @@ impl Connection {
         }
     }
 
-    fn write(&mut self) {
+    fn write(&mut self, now: Instant) {
+        if let Some(rest) = self.rest.take() {
+            self.output.extend_from_slice(rest.made().as_bytes());
+        }
         if self.output.is_empty() {
             return;
         }
         match self.stream.write(&self.output) {
-            Ok(length) => drop(self.output.drain(..length)),
+            Ok(length) => {
+                self.output.drain(..length);
+                self.deadline = now + PATIENCE;
+            }
             Err(error) => self.fail(error.kind()),
         }
         if self.output.is_empty() && self.stage == Stage::Answering {

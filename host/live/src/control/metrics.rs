@@ -1,7 +1,8 @@
 //! The counts in the text form of Prometheus.
 
-use crate::control::status;
+use crate::book::{ConnectionState, Ending, ServerCounts};
 use crate::counters::{CHANGES, WAYS};
+use crate::device;
 use crate::instance::Instance;
 use nidhaaguf::Refusal;
 use std::fmt::{Display, Write};
@@ -10,33 +11,84 @@ use std::fmt::{Display, Write};
 pub fn text(instance: &Instance) -> String {
     let mut out = String::new();
     add_servers(&mut out, instance);
+    add_connections(&mut out, instance);
+    add_endings(&mut out, instance);
     add_table(&mut out, instance);
     add_packets(&mut out, instance);
-    let counters = instance.counters();
-    let name = "write_failures_total";
-    head(&mut out, name, "counter", "Accepted packets that the device did not take.");
-    sample(&mut out, name, "", counters.write_failures);
-    let name = "idle_removed_total";
-    head(&mut out, name, "counter", "Connections removed because they were idle.");
-    sample(&mut out, name, "", counters.idle_removed);
+    add_totals(&mut out, instance);
     out
 }
 
-fn add_servers(out: &mut String, instance: &Instance) {
+/// The labels of each server, without their braces.
+fn labels(instance: &Instance) -> Vec<String> {
     let servers = instance.settings().servers.iter().enumerate();
-    let labelled: Vec<_> = servers
-        .map(|(number, server)| {
-            let labels = format!("{{server=\"{number}\",address=\"{}\"}}", server.at);
-            (labels, status::load(instance, number))
-        })
-        .collect();
-    head(out, "connections", "gauge", "Connections of a server.");
-    for (labels, (_, connections)) in &labelled {
-        sample(out, "connections", labels, connections);
+    let labels = |(number, at)| format!("server=\"{number}\",address=\"{at}\"");
+    servers.map(|(number, server)| labels((number, server.at))).collect()
+}
+
+fn add_servers(out: &mut String, instance: &Instance) {
+    let labels = labels(instance);
+    let count = |server: usize| u64::from(instance.director().count(server).unwrap_or(0));
+    let weight = |server: usize| u64::from(instance.weight(server).unwrap_or(0));
+    let down = |server: usize| u64::from(instance.is_down(server));
+    let metrics: [(&str, &str, &dyn Fn(usize) -> u64); 3] = [
+        ("server_connections", "Connections of a server, in any state.", &count),
+        (
+            "weight",
+            "Weight of a server, also while it is down; 0 gets no new connections.",
+            &weight,
+        ),
+        ("down", "1 where a server is said to be down, so that it gets no new connections.", &down),
+    ];
+    for (name, help, value) in metrics {
+        head(out, name, "gauge", help);
+        add_each(out, name, &labels, value);
     }
-    head(out, "weight", "gauge", "Weight of a server; 0 gets no new connections.");
-    for (labels, (weight, _)) in &labelled {
-        sample(out, "weight", labels, weight);
+}
+
+/// A sample for each server.
+fn add_each(out: &mut String, name: &str, labels: &[String], value: &dyn Fn(usize) -> u64) {
+    for (server, labels) in labels.iter().enumerate() {
+        sample(out, name, &format!("{{{labels}}}"), value(server));
+    }
+}
+
+fn add_connections(out: &mut String, instance: &Instance) {
+    let labels = labels(instance);
+    let mut found = vec![[0_u64; ConnectionState::ALL.len()]; labels.len()];
+    for seen in instance.connections() {
+        found[seen.connection.server][seen.state as usize] += 1;
+    }
+    head(out, "connections", "gauge", "Connections of a server, by state.");
+    for (labels, found) in labels.iter().zip(found) {
+        add_states(out, labels, found);
+    }
+}
+
+fn add_states(out: &mut String, labels: &str, found: [u64; ConnectionState::ALL.len()]) {
+    for (state, connections) in ConnectionState::ALL.into_iter().zip(found) {
+        let labels = format!("{{{labels},state=\"{}\"}}", state.name());
+        sample(out, "connections", &labels, connections);
+    }
+}
+
+fn add_endings(out: &mut String, instance: &Instance) {
+    let (labels, servers) = (labels(instance), instance.book().servers());
+    head(out, "openings_total", "counter", "Connections that were opened, by server.");
+    add_each(out, "openings_total", &labels, &|server| servers[server].opened);
+    head(out, "endings_total", "counter", "Connections that have ended, by server and by whom.");
+    for (labels, counts) in labels.iter().zip(servers) {
+        add_endings_of(out, labels, counts);
+    }
+    let help = "Connections that their server has ended within a second of their opening.";
+    head(out, "early_endings_total", "counter", help);
+    add_each(out, "early_endings_total", &labels, &|server| servers[server].early);
+}
+
+fn add_endings_of(out: &mut String, labels: &str, counts: &ServerCounts) {
+    for ending in Ending::ALL {
+        let labels = format!("{{{labels},by=\"{}\"}}", ending.name());
+        sample(out, "endings_total", &labels, counts.ended_by(ending));
     }
 }
 
@@ -51,12 +103,12 @@ fn add_table(out: &mut String, instance: &Instance) {
 }
 
 fn add_packets(out: &mut String, instance: &Instance) {
-    let packets = &instance.counters().packets;
+    let counters = instance.counters();
     head(out, "packets_total", "counter", "Accepted packets, by what they did.");
     for (way, way_name) in WAYS {
         for (change, name) in CHANGES {
             let labels = format!("{{way=\"{way_name}\",answer=\"{name}\"}}");
-            sample(out, "packets_total", &labels, packets.accepted(way, change));
+            sample(out, "packets_total", &labels, counters.packets.accepted(way, change));
         }
     }
     head(out, "refusals_total", "counter", "Refused packets, by the number of the refusal.");
@@ -64,9 +116,47 @@ fn add_packets(out: &mut String, instance: &Instance) {
         for refusal in Refusal::ALL.into_iter().filter(|refusal| refusal.is_of_packets()) {
             let (number, reason) = (refusal.number(), refusal.words());
             let labels = format!("{{way=\"{way_name}\",number=\"{number}\",reason=\"{reason}\"}}");
-            sample(out, "refusals_total", &labels, packets.refused(way, refusal));
+            sample(out, "refusals_total", &labels, counters.refused(way, refusal));
         }
     }
+}
+
+fn add_totals(out: &mut String, instance: &Instance) {
+    let counters = instance.counters();
+    for (name, help, value) in [
+        (
+            "ipv6_packets_total",
+            "Packets of IPv6 on the device, dropped; they are no refusals.",
+            counters.ipv6.iter().sum(),
+        ),
+        (
+            "resets_sent_total",
+            "Resets sent in answer to packets of unknown connections.",
+            counters.resets_sent,
+        ),
+        (
+            "resets_unsent_total",
+            "Resets not sent, since as many were sent in that second as may be.",
+            counters.resets_unsent,
+        ),
+        ("write_failures_total", "Packets that the device did not take.", counters.write_failures),
+        (
+            "idle_removed_total",
+            "Connections removed because they were idle.",
+            counters.idle_removed,
+        ),
+    ] {
+        head(out, name, "counter", help);
+        sample(out, name, "", value);
+    }
+    let Some((device, drops)) =
+        instance.device().and_then(|name| Some((name, device::drops(name)?)))
+    else {
+        return;
+    };
+    let name = "device_drops_total";
+    head(out, name, "counter", "Packets that the device's queue had no room for, by the kernel.");
+    sample(out, name, &format!("{{device=\"{device}\"}}"), drops);
 }
 
 fn head(out: &mut String, name: &str, kind: &str, help: &str) {

@@ -3,9 +3,14 @@
 
 pub mod commands;
 pub mod connection;
+pub mod json;
+pub mod left;
+pub mod listing;
+pub mod load;
 pub mod metrics;
 pub mod socket;
 pub mod status;
+pub mod table;
 
 use crate::config::reload::Reload;
 use crate::handover::request::Request;
@@ -71,7 +76,7 @@ impl Control {
         for (client, _) in
             self.connections.iter_mut().zip(clients).filter(|(_, file)| file.is_ready())
         {
-            client.exchange();
+            client.exchange(now);
         }
         self.close(now);
         if socket[0].is_ready() {
@@ -116,8 +121,9 @@ impl Control {
             if system::wait(&mut files, time).is_err() {
                 return;
             }
-            self.connections.iter_mut().for_each(Connection::exchange);
-            self.close(Instant::now());
+            let now = Instant::now();
+            self.connections.iter_mut().for_each(|client| client.exchange(now));
+            self.close(now);
         }
     }
 
@@ -154,16 +160,17 @@ impl Control {
             Ok(Obeyed::TakeOver) => return Some(self.connections.remove(place).into_stream()),
             Ok(Obeyed::Command(Command::Watch, answer)) => {
                 let shown = status::timeless(instance);
-                client.watch(&format!("ok\n{}", answer.text), instance.changes(), &shown, now);
+                let text = format!("ok\n{}", answer.text.made());
+                client.watch(&text, instance.changes(), &shown, now);
             }
             Ok(Obeyed::Command(command, answer)) => {
                 match command {
                     Command::Reload => {
                         log.tell_reload(&answer.changes, &format!("reload of user {user}"))
                     }
-                    _ => log.tell_weights(&answer.changes, &format!("user {user}")),
+                    _ => log.tell_changes(&answer.changes, &format!("user {user}")),
                 }
-                client.answer(&format!("ok\n{}", answer.text), now);
+                client.answer_by("ok\n", answer.text, now);
             }
             Err(complaint) => {
                 log.warning(&format!("refused a command of user {user}: {complaint}"));

@@ -1,10 +1,13 @@
-//! The table of the servers that an operator reads.
+//! The servers with their weights, connections and states, as an operator reads them.
 
 use crate::config::words;
+use crate::control::json::Json;
+use crate::control::load::Load;
+use crate::control::table::aligned;
 use crate::instance::Instance;
-use std::fmt::Write;
 
-const TITLES: [&str; 5] = ["number", "address", "weight", "connections", "state"];
+const TITLES: [&str; 7] =
+    ["number", "address", "weight", "connections", "open", "finished", "state"];
 
 /// The status: a line about the service, then a line for each server.
 pub fn text(instance: &Instance) -> String {
@@ -17,19 +20,33 @@ pub fn timeless(instance: &Instance) -> String {
     format!("{}\n{}", summary(instance), table(instance))
 }
 
-/// What a server may be used for, by its weight and its connections.
-pub fn state(weight: u16, connections: u32) -> &'static str {
-    match (weight, connections) {
-        (1.., _) => "in service",
-        (0, 1..) => "draining",
-        (0, 0) => "may be unplugged",
-    }
+/// The status as JSON.
+pub fn json(instance: &Instance) -> Json {
+    let (settings, director) = (instance.settings(), instance.director());
+    let servers = Load::of_all(instance);
+    Json::Object(vec![
+        ("director", Json::text(instance.id())),
+        ("service", Json::text(settings.service)),
+        ("protocol", Json::text(words::protocol_name(settings.protocol))),
+        ("scheduler", Json::text(words::scheduler_name(settings.scheduler))),
+        ("slots", Json::from(director.slots() as u64)),
+        ("used", Json::from(director.used())),
+        ("clock", Json::from(director.clock())),
+        ("servers", Json::Array(servers.iter().map(server_json).collect())),
+    ])
 }
 
-/// A server's weight and connections, by its number.
-pub fn load(instance: &Instance, server: usize) -> (u16, u32) {
-    let director = instance.director();
-    (director.weight(server).unwrap_or(0), director.count(server).unwrap_or(0))
+fn server_json(load: &Load) -> Json {
+    Json::Object(vec![
+        ("server", Json::from(load.server as u64)),
+        ("address", Json::text(load.at)),
+        ("weight", Json::from(load.weight)),
+        ("down", Json::Truth(load.is_down)),
+        ("connections", Json::from(load.connections)),
+        ("open", Json::from(load.open())),
+        ("finished", Json::from(load.finished)),
+        ("state", Json::text(load.state())),
+    ])
 }
 
 fn summary(instance: &Instance) -> String {
@@ -45,28 +62,12 @@ fn summary(instance: &Instance) -> String {
 }
 
 fn table(instance: &Instance) -> String {
-    let mut rows = vec![TITLES.map(str::to_string)];
-    for (number, server) in instance.settings().servers.iter().enumerate() {
-        let (weight, connections) = load(instance, number);
-        let state = state(weight, connections).to_string();
-        let (number, address) = (number.to_string(), server.at.to_string());
-        rows.push([number, address, weight.to_string(), connections.to_string(), state]);
-    }
-    aligned(&rows)
-}
-
-/// Columns as wide as their widest word, two spaces between them.
-fn aligned(rows: &[[String; 5]]) -> String {
-    let width = |column: usize| rows.iter().map(|row| row[column].len()).max().unwrap_or(0);
-    let widths: [usize; 5] = std::array::from_fn(width);
-    let mut text = String::new();
-    for [number, address, weight, connections, state] in rows {
-        let [first, second, third, fourth, _] = widths;
-        // writing to a string doesn't fail
-        let _ = writeln!(
-            text,
-            "{number:first$}  {address:second$}  {weight:third$}  {connections:fourth$}  {state}"
-        );
-    }
-    text
+    let row = |load: Load| {
+        let counts = [load.connections, load.open(), load.finished].map(|count| count.to_string());
+        let [connections, open, finished] = counts;
+        let (server, address) = (load.server.to_string(), load.at.to_string());
+        let state = load.state().to_string();
+        [server, address, load.weight.to_string(), connections, open, finished, state]
+    };
+    aligned(TITLES, Load::of_all(instance).into_iter().map(row))
 }

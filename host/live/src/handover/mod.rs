@@ -4,6 +4,7 @@
 pub mod file;
 pub mod give;
 pub mod layout;
+mod possible;
 pub mod request;
 pub mod snapshot;
 pub mod take;

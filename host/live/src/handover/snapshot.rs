@@ -1,20 +1,19 @@
 //! All that the next process needs of a director.
 
+use super::possible;
+use crate::book::{Entry, ServerCounts};
 use crate::clock::Clock;
 use crate::config::compare::{difference, Difference};
 use crate::config::given::Given;
 use crate::config::{setup, Config};
 use crate::counters::Counters;
-use crate::instance::Instance;
+use crate::instance::{Assigned, Id, Instance};
 use crate::log::position::Position;
 use crate::log::Log;
 use nidhaaguf::raw::State;
-use nidhaaguf::{Director, Refusal, Settings, Way};
+use nidhaaguf::{Connection, Director, Settings};
 use std::fs;
 use std::time::Duration;
-
-/// More than any count comes to: a thousand million a second for a year.
-const MOST_COUNT: u64 = 1 << 55;
 
 /// A director between two packets.
 #[derive(Clone, Debug, PartialEq)]
@@ -35,12 +34,24 @@ pub struct Snapshot {
     pub weights_set: u64,
     /// How far its log has come.
     pub log: Position,
+    /// Which director it is.
+    pub id: Id,
+    /// Of each connection, in the order of the table, the number of its entry in the book.
+    pub entries: Vec<u64>,
+    /// What became of the connections, by server.
+    pub servers: Vec<ServerCounts>,
+    /// What was said of the servers.
+    pub assigned: Vec<Assigned>,
 }
 
 impl Snapshot {
     /// Of a director that serves on this machine.
     pub fn of(instance: &Instance, log: &Log) -> Snapshot {
         let (state, row) = instance.director().parts();
+        let book = instance.book();
+        let word = |found: Connection| {
+            book.entry(found.client).map_or(Entry::OF_UNKNOWN_OPENING, Entry::word)
+        };
         Snapshot {
             boot: this_boot(),
             clock: instance.clock(),
@@ -50,13 +61,17 @@ impl Snapshot {
             counters: instance.counters().clone(),
             weights_set: instance.weights_set(),
             log: log.position().clone(),
+            id: instance.own_id().clone(),
+            entries: instance.director().connections().map(word).collect(),
+            servers: book.servers().to_vec(),
+            assigned: instance.assigned().to_vec(),
         }
     }
 
     /// The director that goes on from here now, at a clock of that speed; an error says why there is none. It must be sound by
     /// the library's own judgement, and set up as the configuration says.
     pub fn resume(self, config: &Config, speed: u32, now: Duration) -> Result<Resumed, String> {
-        self.possible_counts()?;
+        possible::counts(&self)?;
         let director = Director::resume(self.state, self.row)
             .map_err(|refusal| format!("the library refuses it: {refusal}"))?;
         same_setup(&director, config)?;
@@ -66,38 +81,23 @@ impl Snapshot {
                 "its clock runs {own} times as fast as time, and not {speed} times"
             ));
         }
+        possible::weights(&self.assigned, &director)?;
+        let book = possible::book(&self.entries, self.servers, &director)?;
         let (settings, log) = (with_weights(director.settings(), &self.configured), self.log);
         if self.boot != this_boot() {
             let (fresh, clock) = (emptied(&director, config)?, Clock::new(now, speed));
-            let instance = Instance::new(settings, fresh, clock);
+            let instance = Instance::new(settings, fresh, clock).with_assigned(self.assigned);
             let (log, forgotten) = (Position::at_start(&instance), Some(director.used()));
             return Ok(Resumed { instance, log, forgotten });
         }
         if self.clock.second(now) < director.clock() {
             return Err(format!("its clock is ahead of the machine's: {}", director.clock()));
         }
-        let instance = Instance::new(settings, director, self.clock);
-        let instance = instance.with_counts(self.counters, self.weights_set);
+        let instance = Instance::new(settings, director, self.clock)
+            .with_assigned(self.assigned)
+            .with_counts(self.counters, self.weights_set)
+            .with_book(self.id, book);
         Ok(Resumed { instance, log, forgotten: None })
-    }
-
-    /// Counts go on by adding, and must be such that they can have come by it.
-    fn possible_counts(&self) -> Result<(), String> {
-        let Position { lines, lost, told } = &self.log;
-        let full = self.counters.packets.refused(Way::Inbound, Refusal::TableFull);
-        let single = [
-            self.counters.write_failures,
-            self.counters.idle_removed,
-            self.weights_set,
-            *lines,
-            *lost,
-        ];
-        let mut all = self.counters.packets.words().iter().chain(&single);
-        let is_told = told.refused_before <= told.refused && told.refused <= full;
-        match is_told && all.all(|&count| count < MOST_COUNT) {
-            true => Ok(()),
-            false => Err("its counts are none that a director can have".into()),
-        }
     }
 }
 

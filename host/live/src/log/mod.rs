@@ -4,10 +4,11 @@ pub mod line;
 pub mod output;
 pub mod position;
 
-use crate::instance::{Instance, WeightChange};
+use crate::instance::Instance;
 use line::Form;
 use output::Output;
 use position::Position;
+use std::fmt::Display;
 use std::io::{self, IsTerminal};
 use std::time::SystemTime;
 
@@ -79,19 +80,19 @@ impl Log {
         }
     }
 
-    /// Tells the weights that were changed, and by whom.
-    pub fn tell_weights(&mut self, changes: &[WeightChange], by: &str) {
+    /// Tells what was changed, and by whom.
+    pub fn tell_changes(&mut self, changes: &[impl Display], by: &str) {
         for change in changes {
             self.notice(&format!("{change}, by {by}"));
         }
     }
 
     /// Tells a reload, also one that changed nothing.
-    pub fn tell_reload(&mut self, changes: &[WeightChange], by: &str) {
+    pub fn tell_reload(&mut self, changes: &[impl Display], by: &str) {
         if changes.is_empty() {
             self.notice(&format!("{by}: nothing has changed"));
         }
-        self.tell_weights(changes, by);
+        self.tell_changes(changes, by);
     }
 
     /// Writes a line, and before it how many were lost.

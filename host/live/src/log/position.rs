@@ -90,6 +90,5 @@ impl Told {
 
 /// The count is asked of drained servers alone: it takes a look at the whole table.
 fn is_drained(instance: &Instance, server: usize) -> bool {
-    let director = instance.director();
-    director.weight(server) == Some(0) && director.count(server) == Ok(0)
+    instance.weight(server) == Some(0) && instance.director().count(server) == Ok(0)
 }

@@ -4,6 +4,7 @@ use crate::daemon::{output, PATIENCE};
 use crate::model::VIRTUAL;
 use crate::place::{as_nobody, control};
 use crate::rig::Rig;
+use live::control::connection::MOST_COMMAND;
 use live::system::{self, Waited};
 use reference::packets::{tcp, SYN};
 use std::fs;
@@ -19,12 +20,12 @@ use std::time::{Duration, Instant};
 /// Commands that nobody should send.
 pub fn wrong_commands(rig: &mut Rig) {
     for (line, answer) in [
-        ("", "error: expected a command: status, weight N W, "),
-        ("halt", "error: expected a command: status, weight N W, "),
-        ("\u{0}\u{1}\u{7f}", "error: expected a command: status, weight N W, "),
-        ("weight 0", "error: expected `weight N W`: "),
+        ("", "error: expected a command: status, count, "),
+        ("halt", "error: expected a command: status, count, "),
+        ("\u{0}\u{1}\u{7f}", "error: expected a command: status, count, "),
+        ("weight 0", "error: expected `weight N W`, got \"weight 0\"\n"),
         ("weight 0 65536", "error: expected a weight, 0 to 65535, got \"65536\"\n"),
-        ("drain two", "error: expected a server's number, from 0, got \"two\"\n"),
+        ("drain two", "error: expected a server's number or its ADDRESS:PORT, got \"two\"\n"),
         (
             "count 2",
             "error: there is no server of that number (5): the servers are 0 to 1, got 2\n",
@@ -44,9 +45,9 @@ pub fn wrong_commands(rig: &mut Rig) {
 
 /// Commands without end, and clients that send nothing else as fast as they can: packets pass meanwhile.
 pub fn garbage(rig: &mut Rig) {
-    let long = rig.daemon.ask(&"x".repeat(257));
-    assert_eq!(long, "error: expected a command of at most 256 bytes\n");
-    let longest = rig.daemon.ask(&"x".repeat(256));
+    let long = rig.daemon.ask(&"x".repeat(MOST_COMMAND + 1));
+    assert_eq!(long, "error: expected a command of at most 2048 bytes\n");
+    let longest = rig.daemon.ask(&"x".repeat(MOST_COMMAND));
     assert!(longest.starts_with("error: expected a command: "), "{longest}");
     let (stop, floods) = (AtomicBool::new(false), 2);
     let socket = rig.daemon.socket.clone();
@@ -144,12 +145,15 @@ pub fn a_watch_that_reads(rig: &mut Rig) {
         }
         table
     };
-    assert!(table()[2].ends_with("2       0            in service"));
+    assert!(table()[2].ends_with("2       0            0     0         in service"));
     rig.set_weight(0, 9);
     let news = table();
-    assert!(news[0].is_empty() && news[3].ends_with("9       0            in service"), "{news:?}");
+    assert!(
+        news[0].is_empty() && news[3].ends_with("9       0            0     0         in service"),
+        "{news:?}"
+    );
     rig.set_weight(0, 2);
-    assert!(table()[3].ends_with("2       0            in service"));
+    assert!(table()[3].ends_with("2       0            0     0         in service"));
     let mut times: Vec<Duration> = (1..=11)
         .map(|connections| {
             open_connection(rig);
@@ -174,7 +178,7 @@ fn open_connection(rig: &mut Rig) {
 }
 
 /// The lines as they come.
-fn lines_of(output: ChildStdout) -> Receiver<String> {
+pub fn lines_of(output: ChildStdout) -> Receiver<String> {
     let (sender, lines) = mpsc::channel();
     std::thread::spawn(move || {
         let read = BufReader::new(output).lines().map_while(Result::ok);
@@ -184,7 +188,7 @@ fn lines_of(output: ChildStdout) -> Receiver<String> {
 }
 
 /// A process that doesn't outlive the test.
-struct Ended(Child);
+pub struct Ended(pub Child);
 
 impl Drop for Ended {
     fn drop(&mut self) {

@@ -36,13 +36,13 @@ impl Counts {
     /// All packets, accepted and refused.
     pub fn packets(&self) -> u64 {
         let of_packets =
-            |name: &str| name.contains("_packets_total{") || name.contains("_refusals_total{");
+            |name: &str| name.contains("_packets_total") || name.contains("_refusals_total{");
         self.0.iter().filter(|(name, _)| of_packets(name)).map(|(_, value)| value).sum()
     }
 
-    /// The same without one that can't be foretold.
+    /// The same without those of a name, which can't be foretold.
     pub fn without(mut self, name: &str) -> Counts {
-        self.0.remove(name);
+        self.0.retain(|found, _| found.split('{').next() != Some(name));
         self
     }
 }

@@ -243,7 +243,8 @@ pub fn output(command: &mut Command) -> Outcome {
     outcome(&mut command.stdout(Stdio::piped()).stderr(Stdio::piped()).spawn().unwrap())
 }
 
-fn outcome(child: &mut Child) -> Outcome {
+/// Waits for a process' end, which must come in time.
+pub fn outcome(child: &mut Child) -> Outcome {
     let deadline = Instant::now() + PATIENCE;
     while child.try_wait().unwrap().is_none() {
         if Instant::now() > deadline {

@@ -24,6 +24,21 @@ pub fn second_director() {
     daemon.end_by("TERM");
 }
 
+/// A device that is an interface of another kind: told as that, and left as it is.
+pub fn other_interfaces() {
+    let place = Place::new("interfaces");
+    link::ip("tuntap add dev tap9 mode tap");
+    for name in ["lo", "tap9"] {
+        let (code, out, log) = output(&mut command(&place, CONFIG, name, &[]));
+        assert_eq!((code, out.as_str()), (Some(1), ""));
+        let expected = "expected a TUN device of one queue, or a name that no interface has";
+        let words = format!("the device {name} can't be used: {expected}, got another interface");
+        assert_eq!(log, format!("<3>nidhaagufd: {words}\n"));
+        assert!(link::device_number(name).is_some());
+    }
+    link::ip("link delete tap9");
+}
+
 /// A director that was killed leaves its socket; the next one takes its place.
 pub fn stale_socket() {
     let place = Place::new("stale");

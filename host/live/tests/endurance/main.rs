@@ -7,26 +7,35 @@ mod clients;
 mod counts;
 mod daemon;
 mod damage;
+mod defence;
 mod earlier_program;
 mod endings;
+mod ends;
 mod floods;
+#[path = "../shared/json.rs"]
+mod json;
 mod killed;
 #[path = "../shared/layouts.rs"]
 mod layouts;
 mod link;
+mod listings;
 mod logs;
 mod model;
+mod operators;
 mod packets;
 mod place;
 mod reloads;
 mod restarts;
 mod rig;
+mod service;
 mod signals;
 mod stand_ins;
 mod state_files;
 mod takeovers;
+mod waits;
 
 use rig::Rig;
+use service::Service;
 
 /// Runs a test in a network namespace of its own, or says that it was left out.
 fn in_own_network(name: &str, test: impl FnOnce()) {
@@ -72,6 +81,7 @@ fn clients_of_all_kinds() {
 fn starts_and_ends() {
     in_own_network("endurance of starts and ends", || {
         endings::second_director();
+        endings::other_interfaces();
         endings::stale_socket();
         endings::file_in_the_way();
         endings::deleted_device();
@@ -180,9 +190,11 @@ fn takeovers_in_which_one_is_killed() {
 #[test]
 fn upgrades_from_an_earlier_layout() {
     in_own_network("endurance of upgrades from an earlier layout", || {
-        let mut rig = Rig::start("layout-1");
-        earlier_program::take_over(&mut rig);
-        earlier_program::state_file(&mut rig);
+        let mut rig = Rig::start("earlier-layout");
+        for (layout, of_layout) in earlier_program::EARLIER {
+            earlier_program::take_over(&mut rig, layout, of_layout);
+            earlier_program::state_file(&mut rig, of_layout);
+        }
         rig.daemon.end_by("TERM");
     });
 }
@@ -211,4 +223,54 @@ fn restarts_of_other_kinds() {
         restarts::without_a_folder();
         restarts::on_a_full_disk();
     });
+}
+
+#[test]
+fn unknown_connections_and_late_openings() {
+    in_own_network("endurance of unknown connections and late openings", || {
+        defence::unknown_connections();
+        defence::limited_resets();
+        defence::late_openings();
+        defence::openings_that_are_handed_on();
+        defence::flood_of_openings();
+        defence::noise_and_drops();
+    });
+}
+
+#[test]
+fn operators_of_all_kinds() {
+    in_own_network("endurance of what operators say", || {
+        let mut service = Service::start("operators");
+        operators::weights(&mut service);
+        operators::ended(&mut service);
+        operators::down_and_up(&mut service);
+        operators::watched(&mut service);
+        operators::looks(&mut service);
+        operators::wrong_words(&mut service);
+        service.daemon.end_by("TERM");
+    });
+}
+
+#[test]
+fn listings_of_a_full_table() {
+    in_own_network("endurance of listings", || {
+        listings::packets_meanwhile();
+        listings::slow_reader();
+    });
+}
+
+#[test]
+fn waits_of_all_kinds() {
+    in_own_network("endurance of waits", || {
+        waits::to_zero();
+        waits::through_take_over_and_restart();
+        waits::another_director();
+        waits::gone();
+        waits::in_vain();
+    });
+}
+
+#[test]
+fn real_ends() {
+    in_own_network("endurance of real ends", ends::both_learn);
 }

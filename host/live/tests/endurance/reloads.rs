@@ -23,19 +23,19 @@ pub fn changed_weights(rig: &mut Rig) {
     let mut watch = rig.daemon.connect();
     watch.write_all(b"watch\n").unwrap();
     let mut watched = BufReader::new(watch).lines().map_while(Result::ok);
-    assert!(watched.any(|line| line.ends_with("2       0            in service")));
+    assert!(watched.any(|line| line.ends_with("2       0            0     0         in service")));
     write_config(rig, &CONFIG.replace("weight 2", "weight 7"));
     let change = "server 0 (10.1.0.5:6432): weight 2 -> 7";
     assert_eq!(reload(rig), (Some(0), format!("{change}\n"), String::new()));
     rig.model.set_weight(0, 7);
     rig.daemon.await_log(&format!("<5>nidhaagufd: {change}, by reload of user 0\n"));
-    assert!(watched.any(|line| line.ends_with("7       0            in service")));
+    assert!(watched.any(|line| line.ends_with("7       0            0     0         in service")));
     rig.must_serve();
     write_config(rig, CONFIG);
     rig.daemon.signal("HUP");
     rig.daemon.await_log("server 0 (10.1.0.5:6432): weight 7 -> 2, by reload\n");
     rig.model.set_weight(0, 2);
-    assert!(watched.any(|line| line.ends_with("2       0            in service")));
+    assert!(watched.any(|line| line.ends_with("2       0            0     0         in service")));
     rig.must_serve();
 }
 

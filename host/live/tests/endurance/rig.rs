@@ -12,7 +12,9 @@ use std::time::{Duration, Instant};
 /// Fewer than the device's queue takes.
 const BATCH: usize = 200;
 
-const CLOCK: &str = "nidhaaguf_clock_seconds";
+/// What the model, whose clock stands still, can't foretell.
+const UNTOLD: [&str; 3] =
+    ["nidhaaguf_clock_seconds", "nidhaaguf_early_endings_total", "nidhaaguf_device_drops_total"];
 
 pub struct Rig {
     pub daemon: Daemon,
@@ -87,7 +89,8 @@ impl Rig {
     /// All counts, and the table, must be the model's; and nothing was written beside what was expected.
     pub fn check(&self) {
         let expected = self.model.counts();
-        assert_eq!(self.counts().without(CLOCK), expected);
+        let told = UNTOLD.iter().fold(self.counts(), |counts, name| counts.without(name));
+        assert_eq!(told, expected);
         assert_eq!(self.link.receive(Duration::ZERO), None);
         let status = self.daemon.text("status");
         let used = expected.get("nidhaaguf_slots_used");

@@ -30,23 +30,7 @@ pub fn bad_files(rig: &mut Rig) {
     let good = good_file(rig);
     let mut damaged = good.clone();
     damaged[500] ^= 4;
-    let files = [
-        (good[..good.len() / 2].to_vec(), "it is cut or damaged: its checksum is "),
-        (Vec::new(), "it is no director's state"),
-        (damaged, "it is cut or damaged: its checksum is "),
-        (numbered(&good, 3), "its layout is 3, and this program reads 1 and 2"),
-        (changed(&good, |other| other.state.servers[0].count += 1), "the library refuses it: "),
-        (
-            changed(&good, |other| other.counters.idle_removed = u64::MAX),
-            "its counts are none that a director can have",
-        ),
-        (changed(&good, |other| other.clock.speed = 7), "its clock runs 7 times as fast as time, "),
-        (
-            changed(&good, |other| other.state.clock = u32::MAX),
-            "its clock is ahead of the machine's",
-        ),
-    ];
-    for (bytes, reason) in files {
+    for (bytes, reason) in files_with_reasons(&good, damaged) {
         fs::write(rig.place.file("sock.state"), &bytes).unwrap();
         rig.start_again();
         must_be_put_aside(&mut rig.daemon, &bytes, reason);
@@ -60,6 +44,34 @@ pub fn bad_files(rig: &mut Rig) {
     rig.start_again();
     rig.model = Model::new();
     rig.check();
+}
+
+/// Files that can't be used, and why.
+fn files_with_reasons(good: &[u8], damaged: Vec<u8>) -> [(Vec<u8>, &'static str); 10] {
+    [
+        (good[..good.len() / 2].to_vec(), "it is cut or damaged: its checksum is "),
+        (Vec::new(), "it is no director's state"),
+        (damaged, "it is cut or damaged: its checksum is "),
+        (numbered(good, 4), "its layout is 4, and this program reads 1, 2 and 3"),
+        (changed(good, |other| other.state.servers[0].count += 1), "the library refuses it: "),
+        (
+            changed(good, |other| other.counters.idle_removed = u64::MAX),
+            "its counts are none that a director can have",
+        ),
+        (
+            changed(good, |other| other.entries.truncate(1)),
+            "its book is not that of its connections",
+        ),
+        (
+            changed(good, |other| other.assigned[1].is_down = true),
+            "its weights are not those that were set",
+        ),
+        (changed(good, |other| other.clock.speed = 7), "its clock runs 7 times as fast as time, "),
+        (
+            changed(good, |other| other.state.clock = u32::MAX),
+            "its clock is ahead of the machine's",
+        ),
+    ]
 }
 
 /// A good file that the configuration doesn't go with any more.
@@ -90,7 +102,7 @@ fn other_configurations(rig: &mut Rig, good: &[u8]) {
         must_be_put_aside(&mut daemon, good, &reason);
         let status = daemon.text("status");
         assert!(status.contains(", 0 of 6"), "{status}");
-        assert!(status.contains("  2       0            in service\n"), "{status}");
+        assert!(status.contains("  2       0            0     0         in service\n"), "{status}");
         daemon.signal("KILL");
         daemon.wait();
     }

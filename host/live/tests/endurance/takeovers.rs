@@ -159,7 +159,7 @@ pub fn other_configurations(rig: &mut Rig) {
         ),
         (
             format!("{CONFIG}server 10.3.0.5:1 weight 1\n"),
-            format!("its server 2 is none, and {path} line 6 says 10.3.0.5:1"),
+            format!("its server 2 is none, and {path} line 8 says 10.3.0.5:1"),
         ),
         (format!("{CONFIG}state /nowhere/state\n"), format!("{state} (os error 2)")),
     ] {
@@ -230,10 +230,10 @@ pub fn other_users(rig: &mut Rig) {
 /// Another layout, as an earlier or a later program would ask for; and lines that are no request.
 pub fn other_layouts(rig: &mut Rig) {
     for (line, answer) in [
-        ("take-over 1 192.0.2.10:5432 tcp", "layout 1 is asked for, and this program's is 2"),
-        ("take-over 3 192.0.2.10:5432 tcp", "layout 3 is asked for, and this program's is 2"),
+        ("take-over 2 192.0.2.10:5432 tcp", "layout 2 is asked for, and this program's is 3"),
+        ("take-over 4 192.0.2.10:5432 tcp", "layout 4 is asked for, and this program's is 3"),
         (
-            "take-over 2 192.0.2.10:5432 udp",
+            "take-over 3 192.0.2.10:5432 udp",
             "the service 192.0.2.10:5432 udp is asked for, and 192.0.2.10:5432 tcp is served here",
         ),
         ("take-over", "expected `take-over LAYOUT ADDRESS:PORT PROTOCOL`"),

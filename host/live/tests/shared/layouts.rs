@@ -9,9 +9,19 @@ const IN_LAYOUT_2: usize = 8 * (3 + 20);
 /// Bytes after them: nine numbers and the checksum.
 pub const AFTER: usize = 8 * 9 + 4;
 
+/// What a program of layout 2 wrote of a director: it had no name, no book, and no counts of resets and IPv6.
+pub fn layout_2_of(snapshot: &Snapshot) -> Vec<u8> {
+    let mut bytes = bytes_of(snapshot);
+    let of_server = 8 * (1 + 6 + 1) + 2 + 1;
+    let added = 8 + 4 + 8 * snapshot.entries.len() + of_server * snapshot.servers.len() + 8 * 4;
+    let end = bytes.len() - 4;
+    bytes.drain(end - added..end);
+    numbered(&bytes, 2)
+}
+
 /// What a program of layout 1 wrote of a director that has refused nothing with a number above 15.
 pub fn layout_1_of(snapshot: &Snapshot) -> Vec<u8> {
-    let mut bytes = bytes_of(snapshot);
+    let mut bytes = layout_2_of(snapshot);
     let first = bytes.len() - AFTER - 2 * IN_LAYOUT_2;
     // the later way first: the earlier one stays in its place
     for way in [first + IN_LAYOUT_2, first] {

@@ -1,6 +1,8 @@
 //! The two programs as they are started, without a device.
 
 use crate::support::CONFIG;
+use live::client::usage;
+use live::control::commands::help::{Entry, COMMANDS};
 use live::log::line;
 use programs::SCRIPT;
 use std::fs;
@@ -82,9 +84,40 @@ fn help_and_version() {
     let (code, out, _) = daemon(&["--help"]);
     assert!(code == 0 && out.contains("--clock-speed N"), "{out}");
     assert_eq!(daemon(&["--version"]).1, "nidhaagufd 0.1.0\n");
-    let (code, out, _) = control(&["help"]);
-    assert!(code == 0 && out.contains("weight N W") && out.contains("reload  "), "{out}");
-    assert_eq!(control(&["--version"]).1, "nidhaagufctl 0.1.0\n");
+    assert_eq!(control(&["--version"]), (0, "nidhaagufctl 0.1.0\n".into(), String::new()));
+    let (_, help, _) = control(&["--help"]);
+    for words in [&["help"][..], &["-h"], &["--socket", "x", "--help"]] {
+        assert_eq!(control(words), (0, help.clone(), String::new()));
+    }
+    for code in ["0 done", "1 the director refused", "2 wrong usage", "3 the time of a wait is up"]
+    {
+        assert!(help.contains(code), "{help}");
+    }
+}
+
+/// Every command is in the help with its arguments, has a help of its own, and is the director's or the client's.
+#[test]
+fn help_of_each_command() {
+    let (_, help, _) = control(&["--help"]);
+    let entries = usage::entries();
+    assert_eq!(entries.len(), COMMANDS.len() + 2);
+    for entry in entries {
+        let Entry { form, summary, details } = entry;
+        let (_, after) = help.split_once(&format!("\n{form}")).expect(form);
+        assert!(after.starts_with([' ', '\n']) && after.trim_start().starts_with(summary));
+        let name = entry.name();
+        let (code, out, _) = control(&[name, "--help"]);
+        assert_eq!(code, 0);
+        let first = format!("usage: nidhaagufctl [--socket PATH] {form}\n\n{summary}\n");
+        assert!(out.starts_with(&first) && out.contains(details), "{out}");
+        assert_eq!(control(&["help", name]).1, out);
+        assert_eq!(control(&[name, "1", "-h"]).1, out);
+    }
+    let (code, _, complaint) = control(&["frob", "--help"]);
+    assert!(
+        code == 2 && complaint.starts_with("nidhaagufctl: expected a command: "),
+        "{complaint}"
+    );
 }
 
 #[test]
@@ -95,7 +128,18 @@ fn wrong_usage_of_the_command() {
         (&["--socket"], "--socket: expected a path"),
         (&["--socket", "x"], "expected a command"),
         (&["weight", "1"], "expected `weight N W`"),
-        (&["reload", "now"], "expected `reload` and nothing after it"),
+        (&["wait"], "expected `wait N [SECONDS]`, got \"wait\""),
+        (&["wait", "0", "1", "2"], "expected `wait N [SECONDS]`, got \"wait 0 1 2\""),
+        (&["wait", "zero"], "expected a server's number or its ADDRESS:PORT, got \"zero\""),
+        (&["wait", "0", "-1"], "expected a number of seconds, got \"-1\""),
+        (&["drain", "0", "--wait", "soon"], "expected a number of seconds, got \"soon\""),
+        (&["drain", "0", "--wait", "1", "2"], "expected `drain N [--wait [SECONDS]]`, got "),
+        (&["drain", "0", "now"], "expected `drain N [--wait [SECONDS]]`, got \"drain 0 now\""),
+        (&["drain"], "expected `drain N [--wait [SECONDS]]`, got \"drain\""),
+        (&["drain", "zero"], "expected a server's number or its ADDRESS:PORT, got \"zero\""),
+        (&["weights", "0"], "expected a server and its weight, as 0=1, got \"0\""),
+        (&["connections", "--jsn"], "expected a server's number or its ADDRESS:PORT, got "),
+        (&["reload", "now"], "expected `reload`, got \"reload now\""),
         (&["weight", "1", "70000"], "expected a weight, 0 to 65535"),
         (
             &["--socket", "/nowhere/sock", "status"],

@@ -4,6 +4,7 @@ use crate::support::CONFIG;
 use live::config::flags::{self, Flags, Request};
 use live::config::setup;
 use live::config::Config;
+use live::policy::{Policy, Unknown};
 use nidhaaguf::{Protocol, Scheduler};
 use std::ffi::OsString;
 
@@ -82,7 +83,7 @@ fn bad_lines_are_told_with_their_number() {
         (
             "# the service",
             "serverr x",
-            "1: expected a setting: service, scheduler, slots, device, socket, state or server, got \"serverr\"".into(),
+            "1: expected a setting: service, scheduler, slots, device, socket, state, unknown, opening-timeout or server, got \"serverr\"".into(),
         ),
         (
             "# the service",
@@ -93,6 +94,65 @@ fn bad_lines_are_told_with_their_number() {
         let text = CONFIG.replacen(old, new, 1);
         assert_eq!(complaint(&text), format!("test.conf line {words}"));
     }
+}
+
+#[test]
+fn unknown_connections_and_late_openings() {
+    let policy = |lines: &str| read(&format!("{CONFIG}{lines}")).unwrap().policy();
+    let reset = |most| Unknown::Reset(most);
+    for (lines, unknown, opening_timeout) in [
+        ("", reset(200), 30),
+        ("unknown reset", reset(200), 30),
+        ("unknown reset 1\nopening-timeout 900", reset(1), 900),
+        ("unknown reset 10000", reset(10_000), 30),
+        ("opening-timeout 0 # off\nunknown drop", Unknown::Drop, 0),
+    ] {
+        assert_eq!(policy(lines), Policy { unknown, opening_timeout }, "{lines}");
+    }
+    let udp = CONFIG.replace("tcp", "udp");
+    for lines in ["", "unknown drop\n", "opening-timeout 0\n"] {
+        assert_eq!(read(&format!("{udp}{lines}")).unwrap().policy(), Policy::NONE);
+    }
+}
+
+#[test]
+fn what_can_not_be_said_of_unknown_connections_and_late_openings() {
+    let udp = CONFIG.replace("tcp", "udp");
+    let form = "expected `unknown reset`, `unknown reset NUMBER` or `unknown drop`";
+    for (text, words) in [
+        (format!("{CONFIG}unknown"), format!("{form}, got \"unknown\"")),
+        (format!("{CONFIG}unknown drop 1"), format!("{form}, got \"unknown drop 1\"")),
+        (format!("{CONFIG}unknown Reset"), format!("{form}, got \"unknown Reset\"")),
+        (
+            format!("{CONFIG}unknown reset 0"),
+            "expected resets a second, 1 to 10000, got \"0\"".into(),
+        ),
+        (
+            format!("{CONFIG}unknown reset 10001"),
+            "expected resets a second, 1 to 10000, got \"10001\"".into(),
+        ),
+        (
+            format!("{CONFIG}opening-timeout"),
+            "expected `opening-timeout SECONDS`, got \"opening-timeout\"".into(),
+        ),
+        (format!("{CONFIG}opening-timeout 901"), "expected seconds, 0 to 900, got \"901\"".into()),
+        (format!("{CONFIG}opening-timeout 5s"), "expected seconds, 0 to 900, got \"5s\"".into()),
+        (
+            format!("{udp}unknown reset"),
+            "expected `unknown drop` for udp, got \"unknown reset 200\"".into(),
+        ),
+        (
+            format!("{udp}opening-timeout 9"),
+            "expected `opening-timeout 0` for udp, got \"opening-timeout 9\"".into(),
+        ),
+    ] {
+        assert_eq!(complaint(&text), format!("test.conf line 7: {words}"));
+    }
+    let twice = format!("{CONFIG}unknown drop\nunknown drop\n");
+    assert_eq!(
+        complaint(&twice),
+        "test.conf line 8: given a second time: it is given at test.conf line 7 already"
+    );
 }
 
 #[test]
@@ -140,12 +200,35 @@ fn what_the_library_refuses_is_told_with_its_line() {
     }
 }
 
+/// Its address with another port, and its port at another address, are a server's like any other.
+#[test]
+fn the_service_itself_is_no_server() {
+    let itself = CONFIG.replace("10.2.0.5:6432", "192.0.2.10:5432");
+    let own = "expected a server's own address and port";
+    let words = format!("test.conf line 5: {own}, got those of the service, 192.0.2.10:5432");
+    assert_eq!(complaint(&itself), words);
+    for other in ["192.0.2.10:6432", "10.2.0.5:5432"] {
+        let config = read(&CONFIG.replace("10.2.0.5:6432", other)).unwrap();
+        assert!(setup::set_up(&config).is_ok(), "{other}");
+    }
+}
+
 #[test]
 fn names_that_linux_would_refuse() {
     let device = "expected a name of 1 to 15 letters, digits, - _ and .";
     for name in ["sixteen-letters-", "a/b", "tun%d", ".."] {
         let text = format!("{CONFIG}device {name}");
         assert_eq!(complaint(&text), format!("test.conf line 7: {device}, got {name:?}"));
+    }
+    let text = format!("{CONFIG}device a b");
+    assert_eq!(complaint(&text), "test.conf line 7: expected `device NAME`, got \"device a b\"");
+    let text = format!("{CONFIG}device");
+    assert_eq!(complaint(&text), "test.conf line 7: expected `device NAME`, got \"device\"");
+    for name in ["", "a b", "sixteen-letters-"] {
+        let flags = flags_of(&["--config", "f", "--device", name]).unwrap();
+        let config = Config::read(CONFIG, "test.conf", flags).unwrap();
+        let words = format!("--device: {device}, got {name:?}");
+        assert_eq!(setup::set_up(&config).unwrap_err(), words);
     }
     let text = format!("{CONFIG}socket /{}", "x".repeat(107));
     assert_eq!(complaint(&text), "test.conf line 7: expected a path of 1 to 107 bytes");

@@ -15,13 +15,13 @@ fn pair(now: Instant) -> (UnixStream, Connection) {
 #[test]
 fn a_command_is_a_line() {
     let (mut client, mut connection) = pair(Instant::now());
-    connection.exchange();
+    connection.exchange(Instant::now());
     assert!(!connection.has_command());
     client.write_all(b"sta").unwrap();
-    connection.exchange();
+    connection.exchange(Instant::now());
     assert!(!connection.has_command());
     client.write_all(b"tus\nmore").unwrap();
-    connection.exchange();
+    connection.exchange(Instant::now());
     assert!(connection.has_command());
     assert_eq!(connection.command(), Ok("status".to_string()));
 }
@@ -31,8 +31,8 @@ fn a_command_may_end_with_what_is_sent() {
     let (mut client, mut connection) = pair(Instant::now());
     client.write_all(b"count 1").unwrap();
     client.shutdown(Shutdown::Write).unwrap();
-    connection.exchange();
-    connection.exchange();
+    connection.exchange(Instant::now());
+    connection.exchange(Instant::now());
     assert!(connection.has_command());
     assert_eq!(connection.command(), Ok("count 1".to_string()));
 }
@@ -43,7 +43,7 @@ fn a_command_has_its_length() {
         let (mut client, mut connection) = pair(Instant::now());
         client.write_all(&vec![b'x'; length]).unwrap();
         client.write_all(b"\n").unwrap();
-        connection.exchange();
+        connection.exchange(Instant::now());
         assert!(connection.has_command());
         assert_eq!(connection.command().is_ok(), good, "{length}");
     }
@@ -54,7 +54,7 @@ fn an_answer_ends_the_connection() {
     let now = Instant::now();
     let (mut client, mut connection) = pair(now);
     client.write_all(b"status\n").unwrap();
-    connection.exchange();
+    connection.exchange(now);
     connection.answer("ok\ntext\n", now);
     assert!(connection.is_over(now) && !connection.has_command());
     drop(connection);
@@ -70,12 +70,12 @@ fn silence_ends_the_connection() {
     assert!(!connection.is_over(now + PATIENCE - Duration::from_nanos(1)));
     // a byte now and then is no way to stay
     client.write_all(b"s").unwrap();
-    connection.exchange();
+    connection.exchange(now);
     assert!(connection.is_over(now + PATIENCE));
     drop(client);
     let (client, mut connection) = pair(now);
     drop(client);
-    connection.exchange();
+    connection.exchange(now);
     assert!(connection.is_over(now));
 }
 
@@ -85,7 +85,7 @@ fn a_command_may_be_answered_late() {
     let now = Instant::now();
     let (mut client, mut connection) = pair(now);
     client.write_all(b"status\n").unwrap();
-    connection.exchange();
+    connection.exchange(now);
     assert!(connection.has_command() && !connection.is_over(now + 2 * PATIENCE));
     let late = now + 2 * PATIENCE;
     connection.answer(&"x".repeat(1 << 20), late);
@@ -98,7 +98,7 @@ fn an_answer_must_be_read() {
     let (_client, mut connection) = pair(now);
     let later = now + Duration::from_secs(3);
     connection.answer(&"x".repeat(1 << 20), later);
-    connection.exchange();
+    connection.exchange(later);
     assert!(!connection.is_over(now + PATIENCE));
     assert!(connection.is_over(later + PATIENCE));
 }
@@ -124,14 +124,14 @@ fn a_watcher_that_goes_or_speaks_is_over() {
     let now = Instant::now();
     let (client, mut connection) = pair(now);
     connection.watch("", 0, "", now);
-    connection.exchange();
+    connection.exchange(now);
     assert!(!connection.is_over(now));
     drop(client);
-    connection.exchange();
+    connection.exchange(now);
     assert!(connection.is_over(now));
     let (mut client, mut connection) = pair(now);
     connection.watch("", 0, "", now);
     client.write_all(b"status\n").unwrap();
-    connection.exchange();
+    connection.exchange(now);
     assert!(connection.is_over(now));
 }

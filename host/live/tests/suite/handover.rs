@@ -241,7 +241,7 @@ fn what_is_no_director_is_not_taken() {
         (&state, &bytes[..99], ": failed to fill whole buffer"),
         ("state 99\n", &bytes[..99], "it is cut or damaged: "),
         ("state 18446744073709551615\n", &bytes, ": failed to fill whole buffer"),
-        (&state, &numbered(&bytes, 3), "its layout is 3, and this program reads 1 and 2"),
+        (&state, &numbered(&bytes, 4), "its layout is 4, and this program reads 1, 2 and 3"),
     ] {
         let place = Place::new("no-director");
         let taker = place.taker(|taken| taken.map(|_| ()));

@@ -6,6 +6,7 @@ use crate::support::*;
 use live::control::{metrics, status};
 use live::handover::layout::{bytes_of, crc32, read, LAYOUT, MOST_BYTES};
 use live::handover::snapshot::{Resumed, Snapshot};
+use live::instance::Id;
 use nidhaaguf::raw;
 use random::Rng;
 use std::time::Duration;
@@ -81,7 +82,7 @@ fn largest_weight_and_divisor_are_worked_out() {
 #[test]
 fn every_field_is_in_the_bytes() {
     let snapshot = small_snapshot();
-    let changes: [fn(&mut Snapshot); 14] = [
+    let changes: [fn(&mut Snapshot); 24] = [
         |other| other.boot.push('x'),
         |other| other.clock.zero += Duration::from_nanos(1),
         |other| other.clock.speed += 1,
@@ -96,6 +97,16 @@ fn every_field_is_in_the_bytes() {
         |other| other.log.lost += 1,
         |other| other.log.told.full = !other.log.told.full,
         |other| other.log.told.drained += 1,
+        |other| other.id = Id::of_number(1),
+        |other| other.entries[4] += 1,
+        |other| other.entries.truncate(4),
+        |other| other.servers[0].opened += 1,
+        |other| other.servers[1].ended[5] += 1,
+        |other| other.servers[2].early += 1,
+        |other| other.assigned[1].weight += 1,
+        |other| other.assigned[1].is_down = false,
+        |other| other.counters.resets_sent += other.counters.resets_unsent + 1,
+        |other| other.counters.ipv6.swap(0, 1),
     ];
     for change in changes {
         let mut other = snapshot.clone();
@@ -139,7 +150,7 @@ fn every_damage_is_refused() {
 fn another_layout_is_told_with_those_that_are_read() {
     let bytes = bytes_of(&small_snapshot());
     for layout in [0, LAYOUT + 1, u32::MAX] {
-        let words = format!("its layout is {layout}, and this program reads 1 and 2");
+        let words = format!("its layout is {layout}, and this program reads 1, 2 and 3");
         assert_eq!(complaint(&numbered(&bytes, layout)), words);
     }
 }

@@ -56,7 +56,7 @@ fn answers_are_counted_by_way() {
     }
     assert_eq!(counters.refused(Way::Inbound, Refusal::MalformedHeader), 1);
     let line = "inbound 1 opened, 0 kept, 1 ended, 3 refused; outbound 0 opened, 1 kept, 0 ended, 2 refused; \
-                0 removed as idle; 0 not taken by the device";
+                0 of IPv6; 0 removed as idle; 0 not taken by the device";
     assert_eq!(instance.counters().to_string(), line);
 }
 

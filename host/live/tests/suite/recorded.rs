@@ -1,12 +1,13 @@
 //! State files that earlier programs have saved: all goes on in this one.
 
-use crate::layouts::layout_1_of;
+use crate::layouts::{layout_1_of, layout_2_of};
 use crate::support::*;
 use live::config::Config;
 use live::control::metrics;
-use live::handover::layout::{bytes_of, read};
+use live::handover::layout::read;
 use live::handover::snapshot::{this_boot, Resumed, Snapshot};
 use live::instance::Instance;
+use std::collections::BTreeMap;
 use std::time::Duration;
 
 /// What a program has left.
@@ -19,8 +20,6 @@ pub struct Recorded {
     config: fn() -> Config,
     /// What it writes of a director.
     bytes_of: fn(&Snapshot) -> Vec<u8>,
-    /// What it didn't tell, and this program does.
-    new: &'static [&'static str],
     /// The largest weight and the divisor of its servers, which it had no numbers for.
     numbers: (u16, u16),
 }
@@ -31,20 +30,15 @@ pub const LAYOUT_1: Recorded = Recorded {
     metrics: include_str!("layout_1.metrics"),
     config: small_config,
     bytes_of: layout_1_of,
-    new: &[
-        "nidhaaguf_refusals_total{way=\"inbound\",number=\"20\"",
-        "nidhaaguf_refusals_total{way=\"outbound\",number=\"20\"",
-    ],
     numbers: (20, 1),
 };
 
 /// Weighted round-robin over the weights 6, 9 and 0, of which the 9 was set; the walk is in its second round.
-const LAYOUT_2: Recorded = Recorded {
+pub const LAYOUT_2: Recorded = Recorded {
     file: include_str!("layout_2.hex"),
     metrics: include_str!("layout_2.metrics"),
     config: weighted_config,
-    bytes_of,
-    new: &[],
+    bytes_of: layout_2_of,
     numbers: (9, 3),
 };
 
@@ -84,16 +78,21 @@ fn samples(text: &str) -> Vec<(&str, &str)> {
     parts.map(|(name, value)| (name.split(",reason=").next().unwrap(), value)).collect()
 }
 
-/// All that was told is told on; what is new begins at 0, or follows from the weights.
+/// All that was told is told on, a server's connections under another name; what is new begins at 0, or follows from the rest.
 #[test]
 fn a_recorded_director_goes_on() {
     for recorded in [LAYOUT_1, LAYOUT_2] {
         let mut instance = recorded.resumed();
         let text = metrics::text(&instance);
-        let (new, known): (Vec<_>, Vec<_>) =
-            samples(&text).into_iter().partition(|(name, _)| recorded.new.contains(name));
-        assert_eq!(known, samples(recorded.metrics));
-        assert!(new.into_iter().eq(recorded.new.iter().map(|name| (*name, "0"))));
+        let renamed = recorded.metrics.replace("_connections{", "_server_connections{");
+        let known: BTreeMap<_, _> = samples(&renamed).into_iter().collect();
+        let (found, new): (Vec<_>, Vec<_>) =
+            samples(&text).into_iter().partition(|(name, _)| known.contains_key(name));
+        assert_eq!(found.into_iter().collect::<BTreeMap<_, _>>(), known);
+        let by_state = |name: &str| name.starts_with("nidhaaguf_connections{");
+        assert!(new.iter().all(|(name, value)| *value == "0" || by_state(name)), "{new:?}");
+        assert!(instance.connections().iter().all(|seen| seen.opened.is_none()));
+        assert_eq!(instance.book().opening(), 0);
         let state = instance.director().parts().0;
         assert_eq!((state.largest_weight, state.weight_divisor), recorded.numbers);
         // a connection of before is kept

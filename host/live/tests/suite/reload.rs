@@ -5,6 +5,7 @@ use live::config::flags::Flags;
 use live::config::reload::{changed_weights, Reload};
 use live::config::Config;
 use live::instance::Instance;
+use live::policy::{Policy, Unknown};
 use std::fs;
 use std::path::PathBuf;
 
@@ -85,7 +86,9 @@ impl Reloaded {
     fn new(name: &str) -> Reloaded {
         let path = PathBuf::from(env!("CARGO_TARGET_TMPDIR")).join(name);
         let flags = Flags { config: Some(path.clone()), ..Flags::default() };
-        Reloaded { path, instance: instance(), reload: Reload::new(flags, config(CONFIG)) }
+        let mut instance = instance();
+        instance.set_policy(config(CONFIG).policy());
+        Reloaded { path, instance, reload: Reload::new(flags, config(CONFIG)) }
     }
 
     fn apply(&mut self, text: &str) -> Result<Vec<String>, String> {
@@ -117,6 +120,41 @@ fn a_drained_server_stays_drained() {
     // set by a command already
     reloaded.instance.set_weight(1, 8).unwrap();
     assert_eq!(reloaded.apply(&back.replace("weight 1\n", "weight 8\n")), Ok(vec![]));
+}
+
+/// What is said of unknown connections and late openings is changed and told like a weight, and kept where the line goes.
+#[test]
+fn other_settings_are_applied_and_told() {
+    let mut reloaded = Reloaded::new("settings.conf");
+    reloaded.instance.set_policy(config(CONFIG).policy());
+    assert_eq!(reloaded.apply(CONFIG), Ok(vec![]));
+    let other =
+        format!("{CONFIG}unknown drop\nopening-timeout 5\n").replace("weight 20", "weight 5");
+    let words = [
+        "server 2 (10.30.0.5:6432): weight 20 -> 5",
+        "unknown reset 200 -> drop",
+        "opening-timeout 30 -> 5",
+    ];
+    assert_eq!(reloaded.apply(&other).unwrap(), words);
+    assert_eq!(reloaded.instance.policy(), Policy { unknown: Unknown::Drop, opening_timeout: 5 });
+    assert_eq!(reloaded.apply(&other), Ok(vec![]));
+    // back to what is so by default
+    let words = ["unknown drop -> reset 200", "opening-timeout 5 -> 30"];
+    assert_eq!(reloaded.apply(&CONFIG.replace("weight 20", "weight 5")).unwrap(), words);
+    assert!(reloaded.apply(&format!("{CONFIG}unknown drop\nopening-timeout 1000\n")).is_err());
+    assert_eq!(reloaded.instance.policy(), config(CONFIG).policy());
+}
+
+/// A weight in the file of a server that is down is the operator's, and in force when it is up.
+#[test]
+fn a_server_that_is_down_stays_down() {
+    let mut reloaded = Reloaded::new("down.conf");
+    reloaded.instance.set_down(2, true).unwrap();
+    let words = "server 2 (10.30.0.5:6432): weight 20 -> 5".to_string();
+    assert_eq!(reloaded.apply(&CONFIG.replace("weight 20", "weight 5")), Ok(vec![words]));
+    assert_eq!((reloaded.weights()[2], reloaded.instance.weight(2)), (Some(0), Some(5)));
+    reloaded.instance.set_down(2, false).unwrap();
+    assert_eq!(reloaded.weights()[2], Some(5));
 }
 
 #[test]

@@ -11,7 +11,7 @@ fn request() -> Request {
 #[test]
 fn requests_are_lines() {
     let request = request();
-    assert_eq!(request.line(), "take-over 2 192.0.2.10:5432 tcp\n");
+    assert_eq!(request.line(), "take-over 3 192.0.2.10:5432 tcp\n");
     assert_eq!(Request::read(&request.line()), Some(Ok(request)));
     let other = Request { layout: u32::MAX, protocol: Protocol::Udp, ..request };
     assert_eq!(Request::read(&other.line()), Some(Ok(other)));
@@ -45,8 +45,8 @@ fn requests_for_another_director_are_refused() {
     let served = "is asked for, and 192.0.2.10:5432 tcp is served here";
     let service = "192.0.2.10:5433".parse().unwrap();
     for (other, words) in [
-        (Request { layout: 1, ..request }, "layout 1 is asked for, and this program's is 2".into()),
-        (Request { layout: 3, ..request }, "layout 3 is asked for, and this program's is 2".into()),
+        (Request { layout: 2, ..request }, "layout 2 is asked for, and this program's is 3".into()),
+        (Request { layout: 4, ..request }, "layout 4 is asked for, and this program's is 3".into()),
         (Request { service, ..request }, format!("the service 192.0.2.10:5433 tcp {served}")),
         (
             Request { protocol: Protocol::Udp, ..request },
@@ -57,17 +57,19 @@ fn requests_for_another_director_are_refused() {
     }
 }
 
-/// A program of layout 1 says so in these words, and is asked for that one; nobody else is.
+/// A program of an earlier layout says so in these words, and is asked for that one; nobody else is.
 #[test]
 fn a_refusal_for_the_layout_alone_is_followed_by_another_request() {
     let request = request();
-    let refused = "layout 2 is asked for, and this program's is 1";
-    assert_eq!(request.earlier(refused), Some(Request { layout: 1, ..request }));
+    for layout in [1, 2] {
+        let refused = format!("layout 3 is asked for, and this program's is {layout}");
+        assert_eq!(request.earlier(&refused), Some(Request { layout, ..request }));
+    }
     for other in [
-        "layout 2 is asked for, and this program's is 3",
-        "layout 2 is asked for, and this program's is 2",
-        "layout 2 is asked for, and this program's is 11",
-        "layout 3 is asked for, and this program's is 1",
+        "layout 3 is asked for, and this program's is 4",
+        "layout 3 is asked for, and this program's is 3",
+        "layout 3 is asked for, and this program's is 11",
+        "layout 4 is asked for, and this program's is 1",
         "the service 192.0.2.10:5432 udp is asked for, and 192.0.2.10:5432 tcp is served here",
         "",
     ] {

@@ -1,9 +1,11 @@
 //! What goes on in the next process, and what doesn't.
 
 use crate::support::*;
+use live::book::Ending;
 use live::config::Config;
 use live::control::{metrics, status};
 use live::handover::snapshot::{this_boot, Snapshot};
+use live::policy::{Policy, Unknown};
 use nidhaaguf::raw::State;
 use std::time::Duration;
 
@@ -118,7 +120,16 @@ fn what_the_library_refuses_is_told() {
 /// Counts that could not be added to, and what was told of more than there was.
 #[test]
 fn counts_that_no_director_can_have_are_refused() {
-    let changes: [fn(&mut Snapshot); 5] = [
+    let changes: [fn(&mut Snapshot); 14] = [
+        |other| other.counters.resets_sent += 1,
+        |other| other.counters.resets_unsent += 1,
+        |other| other.counters.resets_unsent = u64::MAX,
+        |other| other.counters.ipv6[0] += 1,
+        |other| other.counters.ipv6[1] = u64::MAX,
+        |other| other.servers[0].opened += 1,
+        |other| other.servers[2].ended[3] = 1 << 55,
+        |other| other.servers[1].early += 1,
+        |other| other.servers[0].ended[Ending::Idle as usize] += 2,
         |other| other.weights_set = u64::MAX,
         |other| other.counters.idle_removed = 1 << 55,
         |other| other.log.lost = 1 << 63,
@@ -131,6 +142,93 @@ fn counts_that_no_director_can_have_are_refused() {
         let words = "its counts are none that a director can have";
         assert_eq!(complaint(snapshot, &small_config()), words);
     }
+}
+
+/// A book that isn't that of the table, or that the packets can't have made.
+#[test]
+fn a_book_that_no_director_can_have_is_refused() {
+    let known = 1 << 32;
+    // its second connection was finished by its client
+    let snapshot = || {
+        let mut snapshot = small_snapshot();
+        snapshot.row[5] = 2;
+        snapshot
+    };
+    assert!(snapshot().entries.iter().all(|word| word & (known | 4_711) == known | 4_711));
+    assert_eq!(complaint_of_book(&snapshot(), |_| {}), "its book is not that of its connections");
+    let good = |other: &mut Snapshot| other.entries[1] = known | 4_711;
+    assert!(resumes(&snapshot(), good));
+    assert!(resumes(&snapshot(), |other| other.entries = vec![0; 5]));
+    let changes: [fn(&mut Snapshot); 8] = [
+        |other| other.entries.truncate(4),
+        |other| other.entries.push(0),
+        // after its last packet, and so after the clock
+        |other| other.entries[0] += 1,
+        // a clock that isn't known, or opening at no clock
+        |other| other.entries[0] = 4_711,
+        |other| other.entries[0] = 1 << 33,
+        |other| other.entries[0] |= 1 << 34,
+        |other| other.entries[1] |= 1 << 33,
+        // two connections of one client
+        |other| other.row[7] = other.row[2],
+    ];
+    for change in changes {
+        let words = complaint_of_book(&snapshot(), |other| {
+            good(other);
+            change(other);
+        });
+        assert_eq!(words, "its book is not that of its connections");
+    }
+}
+
+fn complaint_of_book(snapshot: &Snapshot, change: impl FnOnce(&mut Snapshot)) -> String {
+    let mut other = snapshot.clone();
+    change(&mut other);
+    complaint(other, &small_config())
+}
+
+fn resumes(snapshot: &Snapshot, change: impl FnOnce(&mut Snapshot)) -> bool {
+    let mut other = snapshot.clone();
+    change(&mut other);
+    other.resume(&small_config(), 1, TAKEN).is_ok()
+}
+
+/// The library's weight is 0 of a server that is down, and of any other what the operator set.
+#[test]
+fn weights_that_were_not_set_are_refused() {
+    let changes: [fn(&mut Snapshot); 3] = [
+        |other| other.assigned[0].weight = 2,
+        |other| other.assigned[2].is_down = true,
+        |other| (other.assigned[1].weight, other.assigned[1].is_down) = (7, false),
+    ];
+    for change in changes {
+        let words = complaint_of_book(&small_snapshot(), change);
+        assert_eq!(words, "its weights are not those that were set");
+    }
+    // of one that is down any weight may have been set
+    assert!(resumes(&small_snapshot(), |other| other.assigned[1].weight = 7));
+}
+
+/// It is the same director, with the same connections: still opening, or open, and since when.
+#[test]
+fn the_book_goes_on() {
+    let mut snapshot = small_snapshot();
+    snapshot.assigned[1].weight = 7;
+    let mut instance = snapshot.resume(&small_config(), 1, TAKEN).unwrap().instance;
+    assert_eq!(instance.id(), "0123456789abcdef");
+    let seen = instance.connections();
+    let states: Vec<_> = seen.iter().map(|seen| (seen.state.name(), seen.opened)).collect();
+    let opening = ("opening", Some(4_711));
+    assert_eq!(states, [("open", Some(4_711)), opening, opening, opening, opening]);
+    assert_eq!((instance.is_down(1), instance.weight(1)), (true, Some(7)));
+    instance.set_down(1, false).unwrap();
+    assert_eq!(instance.director().weight(1), Some(7));
+    // ended in time, and a server's reset is not early any more
+    instance.set_policy(Policy { unknown: Unknown::Drop, opening_timeout: 3 });
+    instance.tick(TAKEN + Duration::from_secs(2));
+    assert_eq!(instance.director().used(), 5);
+    instance.tick(TAKEN + Duration::from_secs(3));
+    assert_eq!(instance.director().used(), 1);
 }
 
 /// After another start of the machine connections are forgotten and counts begin anew; weights, set and configured, are kept.
@@ -146,6 +244,10 @@ fn another_boot_forgets_connections_and_keeps_weights() {
     assert_eq!(resumed.instance.counters().to_string(), instance().counters().to_string());
     assert_eq!(resumed.log.told.drained, 0b10);
     assert!(!resumed.log.told.full);
+    // another director, of which the health check's word is kept
+    assert_ne!(resumed.instance.id(), "0123456789abcdef");
+    assert!(resumed.instance.is_down(1));
+    assert!(resumed.instance.book().servers().iter().all(|counts| counts.opened == 0));
 }
 
 /// An idle limit goes on being true: what was idle for long enough meanwhile is removed at the first tick.

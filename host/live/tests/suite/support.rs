@@ -5,15 +5,17 @@ use live::config::flags::Flags;
 use live::config::setup;
 use live::config::Config;
 use live::handover::snapshot::Snapshot;
-use live::instance::Instance;
+use live::instance::{Id, Instance};
 use live::log::line::Form;
 use live::log::output::Output;
 use live::log::Log;
+use live::policy::{Policy, Unknown};
 use nidhaaguf::Trace;
-use reference::packets::{self, End, RST, SYN};
+use reference::packets::{self, End, ACK, RST, SYN};
 use std::fs::{self, OpenOptions};
 use std::os::unix::net::UnixDatagram;
 use std::path::PathBuf;
+use std::thread;
 use std::time::Duration;
 
 pub const CONFIG: &str = "\
@@ -71,6 +73,25 @@ pub fn pass(instance: &mut Instance, packet: &[u8]) -> Option<Vec<u8>> {
     Some(buffer[..length].to_vec())
 }
 
+/// The segments of its own that it has to send, as its device gets them.
+pub fn sent(instance: &mut Instance) -> Vec<Vec<u8>> {
+    let (link, device) = UnixDatagram::pair().unwrap();
+    thread::scope(|scope| {
+        // more than the socket has room for
+        let receiver = scope.spawn(|| std::iter::from_fn(|| received(&link)).collect());
+        instance.send(&device);
+        device.send(b"end").unwrap();
+        receiver.join().unwrap()
+    })
+}
+
+/// The next packet; None at the end.
+fn received(link: &UnixDatagram) -> Option<Vec<u8>> {
+    let mut buffer = [0; 2_048];
+    let length = link.recv(&mut buffer).unwrap();
+    (buffer[..length] != *b"end").then(|| buffer[..length].to_vec())
+}
+
 /// The configuration of [`small_snapshot`].
 pub fn small_config() -> Config {
     config(&format!("{CONFIG}slots 6\n"))
@@ -79,8 +100,8 @@ pub fn small_config() -> Config {
 /// When [`small_snapshot`] was taken.
 pub const TAKEN: Duration = Duration::from_millis(4_711_500);
 
-/// A director of few slots that has no field as it was at first: connections, one ended, one refused, a weight set, one
-/// server drained, and a table that was full.
+/// A director of few slots that has no field as it was at first: connections, one of them open, some ended, one refused, a weight
+/// set, one server drained and down, a table that was full, packets of IPv6 and of unknown connections.
 pub fn small_snapshot() -> Snapshot {
     let mut instance = instance_of(&format!("{CONFIG}slots 6\n"));
     let mut log = quiet_log();
@@ -93,7 +114,12 @@ pub fn small_snapshot() -> Snapshot {
     log.look(&instance);
     pass(&mut instance, &reset(3));
     log.info("text");
-    Snapshot::of(&instance, &log)
+    instance.set_policy(Policy { unknown: Unknown::Reset(1), opening_timeout: 0 });
+    let of_client = |port| packets::tcp((0x0A00_0001, port), VIRTUAL, ACK).build();
+    [1, 98, 99].iter().for_each(|&port| drop(pass(&mut instance, &of_client(port))));
+    [[0x60; 40], [0x61; 40]].iter().for_each(|noise| drop(pass(&mut instance, noise)));
+    instance.set_down(1, true).unwrap();
+    Snapshot { id: Id::of_number(0x0123_4567_89AB_CDEF), ..Snapshot::of(&instance, &log) }
 }
 
 /// A log that nobody reads.

@@ -1,6 +1,9 @@
 //! The texts of status and metrics.
 
+use crate::json::jq;
 use crate::support::*;
+use live::control::json::Json;
+use live::control::load::Load;
 use live::control::{metrics, status};
 use live::instance::Instance;
 use nidhaaguf::Trace;
@@ -16,10 +19,10 @@ fn the_status_is_a_table() {
     instance.set_weight(1, 0).unwrap();
     instance.tick(Duration::from_secs(12));
     let lines = "\
-number  address         weight  connections  state
-0       10.1.0.5:6432   1       3            in service
-1       10.2.0.5:6432   0       2            draining
-2       10.30.0.5:6432  20      2            in service
+number  address         weight  connections  open  finished  state
+0       10.1.0.5:6432   1       3            3     0         in service
+1       10.2.0.5:6432   0       2            2     0         draining
+2       10.30.0.5:6432  20      2            2     0         in service
 ";
     let summary = "service 192.0.2.10:5432 tcp, least-connection, 7 of 4096 slots used";
     assert_eq!(status::text(&instance), format!("{summary}, clock 12\n{lines}"));
@@ -32,10 +35,40 @@ number  address         weight  connections  state
 
 #[test]
 fn states() {
-    assert_eq!(status::state(1, 0), "in service");
-    assert_eq!(status::state(65_535, 9), "in service");
-    assert_eq!(status::state(0, 1), "draining");
-    assert_eq!(status::state(0, 0), "may be unplugged");
+    let load = Load::of(&instance(), 0).unwrap();
+    let state =
+        |weight, is_down, connections| Load { weight, is_down, connections, ..load }.state();
+    assert_eq!(state(1, false, 0), "in service");
+    assert_eq!(state(65_535, false, 9), "in service");
+    assert_eq!(state(0, false, 1), "draining");
+    assert_eq!(state(0, false, 0), "may be unplugged");
+    assert_eq!(state(1, true, 0), "down");
+    assert_eq!(state(1, true, 9), "down");
+    assert_eq!(state(0, true, 1), "down, draining");
+    assert_eq!(state(0, true, 0), "down, may be unplugged");
+}
+
+#[test]
+fn only_a_server_that_is_up_and_has_a_weight_is_in_service() {
+    let load = Load::of(&instance(), 0).unwrap();
+    for (weight, is_down, expected) in
+        [(1, false, true), (0, false, false), (1, true, false), (0, true, false)]
+    {
+        assert_eq!(Load { weight, is_down, ..load }.is_in_service(), expected);
+    }
+}
+
+/// Another program must read back what was written.
+#[test]
+fn json_strings_are_escaped() {
+    let text = "a\"b\\c/d\n\t\u{1}\u{1f}\u{7f}\u{e9}\u{1f600}";
+    let json = Json::Object(vec![("text", Json::text(text)), ("none", Json::known(None))]);
+    let line = format!("{json}\n");
+    assert_eq!(jq(&line, ".text | explode | implode"), text);
+    assert_eq!(jq(&line, ".none, (.text | length)"), format!("null\n{}", text.chars().count()));
+    let nested = Json::Array(vec![Json::Truth(true), Json::from(7_u32), Json::Array(vec![])]);
+    assert_eq!(nested.to_string(), "[true,7,[]]");
+    assert_eq!(Json::Object(vec![]).to_string(), "{}");
 }
 
 #[test]
@@ -53,8 +86,8 @@ fn metrics_tell_the_counts() {
     instance.tick(Duration::from_secs(100));
     let text = metrics::text(&instance);
     for line in [
-        "nidhaaguf_connections{server=\"0\",address=\"10.1.0.5:6432\"} 1",
-        "nidhaaguf_connections{server=\"2\",address=\"10.30.0.5:6432\"} 1",
+        "nidhaaguf_server_connections{server=\"0\",address=\"10.1.0.5:6432\"} 1",
+        "nidhaaguf_server_connections{server=\"2\",address=\"10.30.0.5:6432\"} 1",
         "nidhaaguf_weight{server=\"2\",address=\"10.30.0.5:6432\"} 0",
         "nidhaaguf_slots 4096",
         "nidhaaguf_slots_used 3",
@@ -119,5 +152,5 @@ fn metrics_are_in_the_text_form() {
     }
     let mut once = declared.clone();
     once.dedup();
-    assert_eq!((declared.len(), once), (9, declared));
+    assert_eq!((declared.len(), once), (17, declared));
 }
