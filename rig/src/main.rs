@@ -1,22 +1,24 @@
 //! Runs a drill in the laboratory that `rig/drill` has made.
 
 use rig::drills::compare::{self, profile, Order};
-use rig::drills::{death, drain, impaired, ports, upgrade};
+use rig::drills::{death, drain, flood, forged, impaired, operator, ports, upgrade};
 use rig::lab::{fail, Failure, Lab};
 use rig::timeline::Timeline;
 use std::process::ExitCode;
 
 const USAGE: &str =
-    "usage: rig drain [--short] | ports [--short] | upgrade [--short] | impaired [SEED] | death | all | short |
+    "usage: rig drain [--short] | ports [--short] | upgrade [--short] | flood [--short] | impaired [SEED] | death |
+    forged | operator | all | short |
     compare [--rounds N] [--beside DIRECTORY] | profile [--beside DIRECTORY]";
 
 /// What becomes of which packet in the drill with bad links, unless another seed is given.
 const SEED: u64 = 1;
 
 /// The drills of `all`.
-const ALL: [&str; 5] = ["drain", "ports", "upgrade", "impaired", "death"];
+const ALL: [&str; 8] =
+    ["drain", "ports", "upgrade", "flood", "impaired", "death", "forged", "operator"];
 /// The drills of `short`, each in its short form.
-const SHORT: [&str; 3] = ["drain", "ports", "upgrade"];
+const SHORT: [&str; 4] = ["drain", "ports", "upgrade", "flood"];
 
 fn main() -> ExitCode {
     let words: Vec<String> = std::env::args().skip(1).collect();
@@ -28,36 +30,33 @@ fn main() -> ExitCode {
 
 fn run(lab: &Lab, timeline: &Timeline, words: &[&str]) -> Result<(), Failure> {
     match words {
-        ["drain"] => in_part(lab, "drain", |part| drain::run(part, timeline, drain::Pace::FULL)),
-        ["drain", "--short"] => {
-            in_part(lab, "drain", |part| drain::run(part, timeline, drain::Pace::SHORT))
-        }
-        ["ports"] => in_part(lab, "ports", |part| ports::run(part, timeline, ports::Pace::FULL)),
-        ["ports", "--short"] => {
-            in_part(lab, "ports", |part| ports::run(part, timeline, ports::Pace::SHORT))
-        }
-        ["upgrade"] => {
-            in_part(lab, "upgrade", |part| upgrade::run(part, timeline, upgrade::Pace::FULL))
-        }
-        ["upgrade", "--short"] => {
-            in_part(lab, "upgrade", |part| upgrade::run(part, timeline, upgrade::Pace::SHORT))
-        }
-        ["impaired"] => in_part(lab, "impaired", |part| impaired::run(part, timeline, SEED)),
-        ["impaired", seed] => {
-            let seed = seed.parse().map_err(|_| Failure(USAGE.into()))?;
-            in_part(lab, "impaired", |part| impaired::run(part, timeline, seed))
-        }
-        ["death"] => in_part(lab, "death", |part| death::run(part, timeline)),
-        ["compare", options @ ..] => {
-            let order = Order::read(options)?;
-            in_part(lab, "compare", |part| compare::run(part, timeline, &order))
-        }
-        ["profile", options @ ..] => {
-            let order = Order::read(options)?;
-            in_part(lab, "profile", |part| profile::run(part, timeline, &order))
-        }
         ["all"] => ALL.iter().try_for_each(|drill| run(lab, timeline, &[drill])),
         ["short"] => SHORT.iter().try_for_each(|drill| run(lab, timeline, &[drill, "--short"])),
+        [name, ..] => in_part(lab, name, |part| run_one(part, timeline, words)),
+        [] => fail(USAGE),
+    }
+}
+
+fn run_one(part: &Lab, timeline: &Timeline, words: &[&str]) -> Result<(), Failure> {
+    match words {
+        ["drain"] => drain::run(part, timeline, drain::Pace::FULL),
+        ["drain", "--short"] => drain::run(part, timeline, drain::Pace::SHORT),
+        ["ports"] => ports::run(part, timeline, ports::Pace::FULL),
+        ["ports", "--short"] => ports::run(part, timeline, ports::Pace::SHORT),
+        ["upgrade"] => upgrade::run(part, timeline, upgrade::Pace::FULL),
+        ["upgrade", "--short"] => upgrade::run(part, timeline, upgrade::Pace::SHORT),
+        ["flood"] => flood::run(part, timeline, flood::Pace::FULL),
+        ["flood", "--short"] => flood::run(part, timeline, flood::Pace::SHORT),
+        ["impaired"] => impaired::run(part, timeline, SEED),
+        ["impaired", seed] => {
+            let seed = seed.parse().map_err(|_| Failure(USAGE.into()))?;
+            impaired::run(part, timeline, seed)
+        }
+        ["death"] => death::run(part, timeline),
+        ["forged"] => forged::run(part, timeline),
+        ["operator"] => operator::run(part, timeline),
+        ["compare", options @ ..] => compare::run(part, timeline, &Order::read(options)?),
+        ["profile", options @ ..] => profile::run(part, timeline, &Order::read(options)?),
         _ => fail(USAGE),
     }
 }

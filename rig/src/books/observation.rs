@@ -1,7 +1,7 @@
 //! Every look at the director's table is kept, so that in the end each count can be held against the packets.
 
-use crate::books::looks::{Clock, Look, Watcher};
-use crate::books::packets::PacketBook;
+use crate::books::looks::{now, Clock, Look, Watcher};
+use crate::books::packets::{Moment, PacketBook};
 use crate::books::replaced::Replaced;
 use crate::books::Book;
 use crate::lab::director::Director;
@@ -18,13 +18,15 @@ pub struct Observation {
     watcher: Option<Watcher>,
     clock_speed: u32,
     replaced: Vec<Replaced>,
+    losses: Vec<Moment>,
 }
 
 impl Observation {
     /// Begins to look at a director whose clock runs so fast.
     pub fn begin(director: &Arc<Director>, clock_speed: u32) -> Observation {
         let watcher = Some(Watcher::start(director.clone()));
-        Observation { looks: Vec::new(), watcher, clock_speed, replaced: Vec::new() }
+        let (looks, replaced, losses) = (Vec::new(), Vec::new(), Vec::new());
+        Observation { looks, watcher, clock_speed, replaced, losses }
     }
 
     /// Lets a new process of the director follow the one that runs. What it says of that is held against the packets in the end.
@@ -34,11 +36,19 @@ impl Observation {
         Ok(replaced)
     }
 
+    /// Kills the director's process, so that its table is lost, and starts another.
+    pub fn lose_table(&mut self, director: &Director) -> Result<(), Failure> {
+        let before = now();
+        director.kill_and_start()?;
+        self.losses.push(Moment { handed: before, written: now() });
+        Ok(())
+    }
+
     /// Holds every count that was ever read against the packets that the director was handed and wrote.
     pub fn hold_against(self, packets: &[Packet], timeline: &Timeline) -> Result<Verdict, Failure> {
         let looks = self.looks;
         let clock = Clock::that_fits(&looks, self.clock_speed)?;
-        let book = PacketBook::read(packets, &clock)?;
+        let book = PacketBook::read(packets, &clock, &self.losses)?;
         let exact = book.check(&looks, &clock)?;
         timeline.tell(format!(
             "{} counts were read, and each is what the packets say (for {exact} of them only one number is right)",
@@ -81,7 +91,8 @@ impl Book for Observation {
 pub struct Verdict {
     /// What the packets say.
     pub book: PacketBook,
-    clock: Clock,
+    /// The director's clock.
+    pub clock: Clock,
     looks: Vec<Look>,
     replaced: Vec<Replaced>,
 }

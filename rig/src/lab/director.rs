@@ -3,7 +3,7 @@
 use crate::lab::network::{self, balanced, DEVICE, SERVER_PORT, VIRTUAL, VIRTUAL_PORT};
 use crate::lab::replacement::{Handover, Replacement};
 use crate::lab::status::Status;
-use crate::lab::{ensure, fail, output, Failure, Lab, Running, SIGTERM};
+use crate::lab::{ensure, fail, output, Failure, Lab, Running, SIGKILL, SIGTERM};
 use programs::{NIDHAAGUFCTL, NIDHAAGUFD};
 use std::ffi::OsString;
 use std::fmt::Write;
@@ -35,6 +35,8 @@ pub struct Options {
     pub clock_speed: u32,
     /// Whether its device is made beforehand, and stays when it ends.
     pub device_stays: bool,
+    /// Further lines of its configuration.
+    pub settings: Vec<String>,
     /// The folder of another build of it, in place of the one here.
     pub build: Option<PathBuf>,
 }
@@ -47,6 +49,7 @@ impl Default for Options {
             weights: vec![1, 1, 1],
             clock_speed: 1,
             device_stays: false,
+            settings: Vec::new(),
             build: None,
         }
     }
@@ -72,7 +75,7 @@ impl Director {
     /// Writes the configuration, starts `nidhaagufd` and waits until it serves. Its log is `director.log`.
     pub fn start(lab: &Lab, options: &Options) -> Result<Director, Failure> {
         let socket = lab.run.join(SOCKET).display().to_string();
-        fs::write(lab.run.join(CONFIGURATION), configuration(options, &socket))?;
+        fs::write(lab.run.join(CONFIGURATION), text_of(options, &socket))?;
         remove_state(lab)?;
         if options.device_stays {
             network::add_device(lab)?;
@@ -114,6 +117,16 @@ impl Director {
         Ok(said)
     }
 
+    /// Kills its process, whose table is lost, and starts another, which must begin empty. Whoever asks meanwhile waits.
+    pub fn kill_and_start(&self) -> Result<(), Failure> {
+        let mut running = self.exclusively();
+        running.signal(SIGKILL)?;
+        running.wait(PATIENCE)?;
+        let (new, said) = launch(&self.lab, &self.options, &[])?;
+        *running = new;
+        ensure(said.is_empty(), format!("after it was killed the director said {said:?}"))
+    }
+
     fn exclusively(&self) -> RwLockWriteGuard<'_, Running> {
         self.running.write().expect(UNBROKEN)
     }
@@ -133,6 +146,40 @@ impl Director {
         self.ask(&["drain", &server.to_string()]).map(|_| ())
     }
 
+    /// Its control socket.
+    pub fn socket(&self) -> PathBuf {
+        self.lab.run.join(SOCKET)
+    }
+
+    /// Its configuration.
+    pub fn configuration(&self) -> PathBuf {
+        self.lab.run.join(CONFIGURATION)
+    }
+
+    /// Makes the routes of the service on its host, as an operator does.
+    pub fn make_routes(&self) -> Result<(), Failure> {
+        let config = self.configuration().display().to_string();
+        let order = ["routes", "--up", "--config", &config];
+        self.lab.output("director", NIDHAAGUFCTL, &order).map(|_| ())
+    }
+
+    /// Begins a command that takes its time; what it says goes to that file.
+    pub fn begin(&self, args: &[&str], said: &Path) -> Result<Running, Failure> {
+        let mut command = NIDHAAGUFCTL.command();
+        command.arg("--socket").arg(self.socket()).args(args);
+        Running::start(command.stdout(fs::File::create(said)?))
+    }
+
+    /// Ends the connection of a client, by its address and port.
+    pub fn disconnect(&self, client: &str) -> Result<String, Failure> {
+        self.ask(&["disconnect", client])
+    }
+
+    /// Ends all connections of a server.
+    pub fn flush(&self, server: usize) -> Result<String, Failure> {
+        self.ask(&["flush", &server.to_string()])
+    }
+
     /// The count of a server.
     pub fn count(&self, server: usize) -> Result<u32, Failure> {
         let said = self.ask(&["count", &server.to_string()])?;
@@ -144,14 +191,6 @@ impl Director {
         self.ask(&["metrics"])
     }
 
-    /// How many connections it has opened, by its metrics.
-    pub fn openings(&self) -> Result<usize, Failure> {
-        let metrics = self.metrics()?;
-        let sample = "nidhaaguf_packets_total{way=\"inbound\",answer=\"opened\"} ";
-        let number = metrics.lines().find_map(|line| line.strip_prefix(sample)?.parse().ok());
-        number.ok_or_else(|| Failure(format!("there is no '{sample}' in the metrics")))
-    }
-
     /// Ends it by SIGTERM; it must leave in order.
     pub fn stop(self) -> Result<(), Failure> {
         end(&mut self.exclusively())
@@ -159,8 +198,7 @@ impl Director {
 
     fn ask(&self, args: &[&str]) -> Result<String, Failure> {
         let _served = self.running.read().expect(UNBROKEN);
-        let mut command = NIDHAAGUFCTL.command();
-        output(command.arg("--socket").arg(self.lab.run.join(SOCKET)).args(args))
+        output(NIDHAAGUFCTL.command().arg("--socket").arg(self.socket()).args(args))
     }
 }
 
@@ -221,8 +259,9 @@ fn path_beginning_with(folder: &Path) -> Result<OsString, Failure> {
     Ok(path)
 }
 
-fn configuration(options: &Options, socket: &str) -> String {
-    let Options { scheduler, slots, weights, .. } = options;
+/// The text of the configuration.
+fn text_of(options: &Options, socket: &str) -> String {
+    let Options { scheduler, slots, weights, settings, .. } = options;
     let mut text = format!(
         "service {VIRTUAL}:{VIRTUAL_PORT} tcp\nscheduler {scheduler}\nslots {slots}\ndevice {DEVICE}\nsocket {socket}\n"
     );
@@ -230,7 +269,7 @@ fn configuration(options: &Options, socket: &str) -> String {
         writeln!(text, "server {}:{SERVER_PORT} weight {weight}", balanced(k))
             .expect("a string grows");
     }
-    text
+    settings.iter().fold(text, |text, line| text + line + "\n")
 }
 
 #[cfg(test)]

@@ -2,6 +2,7 @@
 
 pub mod director;
 mod failure;
+mod metrics;
 pub mod network;
 pub mod postgres;
 mod process;
@@ -9,7 +10,7 @@ pub mod replacement;
 pub mod status;
 
 pub use failure::{ensure, fail, wait_for, Failure};
-pub use process::{output, Running, SIGALRM, SIGTERM};
+pub use process::{output, Running, SIGALRM, SIGKILL, SIGTERM};
 
 use programs::{Program, IP};
 use std::fs::{self, File};

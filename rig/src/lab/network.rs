@@ -66,8 +66,8 @@ pub fn add_device(lab: &Lab) -> Result<(), Failure> {
     lab.output("director", IP, &["tuntap", "add", "dev", DEVICE, "mode", "tun"]).map(|_| ())
 }
 
-/// Brings the director's device up, and leads to it what goes to the virtual address and what servers send back from
-/// their balanced addresses.
+/// Routes for programs that are measured one after another in the director's place, with a configuration or without: brings the device
+/// up, and leads to it what goes to the virtual address and what servers send back from their balanced addresses.
 pub fn attach(lab: &Lab, servers: usize) -> Result<(), Failure> {
     let ip = |args: &[&str]| lab.output("director", IP, args).map(|_| ());
     ip(&["link", "set", DEVICE, "up"])?;

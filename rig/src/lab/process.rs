@@ -12,6 +12,8 @@ extern "C" {
 
 /// Ends a program that has a handler for it in order.
 pub const SIGTERM: i32 = 15;
+/// Ends a program at once.
+pub const SIGKILL: i32 = 9;
 /// The end of pgbench's time, wherever its clock stands.
 pub const SIGALRM: i32 = 14;
 

@@ -1,7 +1,7 @@
 //! Captures by tcpdump at the director: what passes its own device, and what leaves for the client and for each server.
 //! Afterwards every checksum is verified, and what left is held against what the director wrote.
 
-use crate::lab::network::{balanced, server, DEVICE, SERVER_PORT, VIRTUAL, VIRTUAL_PORT};
+use crate::lab::network::{balanced, gateway, server, DEVICE, SERVER_PORT, VIRTUAL, VIRTUAL_PORT};
 use crate::lab::{ensure, fail, wait_for, Failure, Lab, Running, SIGTERM};
 use crate::links::packet::{self, Packet};
 use programs::TCPDUMP;
@@ -31,8 +31,13 @@ struct Capture {
 impl Capture {
     /// Begins to keep the packets at that interface that fit the filter.
     fn start(lab: &Lab, interface: &str, filter: &str) -> Result<Capture, Failure> {
-        let file = lab.run.join(format!("{interface}.pcap"));
-        let log = lab.run.join(format!("{interface}.tcpdump"));
+        Capture::start_as(lab, interface, interface, filter)
+    }
+
+    /// The same in files of that name.
+    fn start_as(lab: &Lab, name: &str, interface: &str, filter: &str) -> Result<Capture, Failure> {
+        let file = lab.run.join(format!("{name}.pcap"));
+        let log = lab.run.join(format!("{name}.tcpdump"));
         let mut command = lab.command("director", TCPDUMP);
         // As root: it would otherwise change to a user who can't write here. Immediately: none is left behind at the end.
         command.args(["-n", "-Z", "root", "--immediate-mode", "-s", SNAPSHOT, "-B", BUFFER]);
@@ -49,7 +54,16 @@ impl Capture {
     }
 
     /// Ends it, and tells its packets. A capture that missed any is worth nothing.
-    fn finish(mut self) -> Result<Vec<Packet>, Failure> {
+    fn finish(self) -> Result<Vec<Packet>, Failure> {
+        let interface = self.interface.clone();
+        let (packets, met) = self.end()?;
+        let words = format!("of {met} packets at {interface} only {} were kept", packets.len());
+        ensure(packets.len() == met, words)?;
+        Ok(packets)
+    }
+
+    /// Ends it. Gives the packets that were kept, and how many there were.
+    fn end(mut self) -> Result<(Vec<Packet>, usize), Failure> {
         self.running.signal(SIGTERM)?;
         self.running.wait(PATIENCE)?;
         let said = fs::read_to_string(&self.log)?;
@@ -64,18 +78,36 @@ impl Capture {
             return fail(format!("tcpdump on {} said: {said}", self.interface));
         };
         let packets = packet::read(&self.file)?;
-        let all = kept == met && dropped == 0 && packets.len() == kept;
-        let words =
-            format!("of {met} packets at {} only {} were kept", self.interface, packets.len());
-        ensure(all, words)?;
-        Ok(packets)
+        let words = format!("tcpdump kept {kept} packets, and its file has {}", packets.len());
+        ensure(packets.len() == kept, words)?;
+        Ok((packets, met + dropped))
     }
+}
+
+/// What tcpdump may need to take the last packet, where it is ended at once.
+const REST: Duration = Duration::from_millis(100);
+
+/// Does something, and gives the packets that the director was handed or wrote meanwhile, of those that fit the filter; none where
+/// tcpdump has missed one.
+pub fn during<T>(
+    lab: &Lab,
+    filter: &str,
+    act: impl FnOnce() -> Result<T, Failure>,
+) -> Result<(T, Option<Vec<Packet>>), Failure> {
+    let capture = Capture::start_as(lab, "meanwhile", DEVICE, filter)?;
+    let done = act()?;
+    std::thread::sleep(REST);
+    let (packets, met) = capture.end()?;
+    let is_whole = packets.len() == met;
+    Ok((done, is_whole.then_some(packets)))
 }
 
 /// The captures of one drill.
 pub struct Captures {
     device: Capture,
     leaving: Vec<Capture>,
+    /// Sequence numbers of resets that were forged: their checksums may be wrong.
+    pub forged: Vec<u32>,
 }
 
 /// What the captures of a drill have shown.
@@ -94,10 +126,13 @@ impl Captures {
         let to_client = format!("tcp and src host {VIRTUAL} and src port {VIRTUAL_PORT}");
         let mut leaving = vec![Capture::start(lab, "client", &to_client)?];
         for k in 0..servers {
-            let to_server = format!("tcp and dst host {} and dst port {SERVER_PORT}", balanced(k));
+            // what the host itself asks a server is not the director's, as a health check
+            let from_clients = format!("tcp and not src host {}", gateway(k));
+            let to_server =
+                format!("{from_clients} and dst host {} and dst port {SERVER_PORT}", balanced(k));
             leaving.push(Capture::start(lab, &server(k), &to_server)?);
         }
-        Ok(Captures { device, leaving })
+        Ok(Captures { device, leaving, forged: Vec::new() })
     }
 
     /// Ends the captures. Fails unless at least so many packets left, each with right checksums and as the director wrote
@@ -110,18 +145,18 @@ impl Captures {
             leaving.push((interface, file, capture.finish()?));
         }
         let device = self.device.finish()?;
-        check_sums("the director's device", &device)?;
+        check_sums("the director's device", &device, &self.forged)?;
         let written: HashSet<&Packet> =
             device.iter().filter(|packet| packet.is_written()).collect();
         for (interface, file, packets) in &leaving {
-            check_sums(interface, packets)?;
+            check_sums(interface, packets, &self.forged)?;
             if let Some(stranger) = packets.iter().find(|packet| !written.contains(packet)) {
                 return fail(format!(
                     "the director didn't write what left at {interface}: {stranger}"
                 ));
             }
             if !packets.is_empty() {
-                check_damage_is_found(file)?;
+                check_damage_is_found(file, &self.forged)?;
             }
         }
         let left = leaving.iter().map(|(_, _, packets)| packets.len()).sum();
@@ -131,9 +166,16 @@ impl Captures {
     }
 }
 
+/// Whether a packet's checksums are not right, and it is no forged reset.
+fn is_wrong(packet: &Packet, forged: &[u32]) -> bool {
+    let is_forged =
+        packet.flags == "R" && packet.sequence().is_some_and(|number| forged.contains(&number));
+    !packet.sums_are_right() && !is_forged
+}
+
 /// Fails with the first packet whose checksums are not right.
-fn check_sums(place: &str, packets: &[Packet]) -> Result<(), Failure> {
-    match packets.iter().find(|packet| !packet.sums_are_right()) {
+fn check_sums(place: &str, packets: &[Packet], forged: &[u32]) -> Result<(), Failure> {
+    match packets.iter().find(|packet| is_wrong(packet, forged)) {
         None => Ok(()),
         Some(wrong) => fail(format!("a wrong checksum at {place}: {wrong}")),
     }
@@ -144,7 +186,7 @@ const FIRST_PACKET: usize = 24 + 16 + 14;
 
 /// Tries the check on a capture of an Ethernet interface with one byte changed: once in the first packet's IPv4 header,
 /// once in its TCP part. Each time exactly that packet must be found wrong.
-fn check_damage_is_found(file: &Path) -> Result<(), Failure> {
+fn check_damage_is_found(file: &Path, forged: &[u32]) -> Result<(), Failure> {
     let good = fs::read(file)?;
     let length = u16::from_be_bytes([good[FIRST_PACKET + 2], good[FIRST_PACKET + 3]]);
     let (time_to_live, last) = (FIRST_PACKET + 8, FIRST_PACKET + usize::from(length) - 1);
@@ -155,7 +197,7 @@ fn check_damage_is_found(file: &Path) -> Result<(), Failure> {
         fs::write(&damaged, bytes)?;
         let packets = packet::read(&damaged)?;
         let wrong: Vec<usize> =
-            (0..packets.len()).filter(|&k| !packets[k].sums_are_right()).collect();
+            (0..packets.len()).filter(|&k| is_wrong(&packets[k], forged)).collect();
         let words = format!(
             "byte {place} of {} was changed, and packets {wrong:?} found wrong",
             file.display()

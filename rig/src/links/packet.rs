@@ -73,11 +73,37 @@ impl Packet {
         }
     }
 
+    /// Its sequence number; a bare acknowledgment is told without.
+    pub fn sequence(&self) -> Option<u32> {
+        number_after(&self.content, "seq ")
+    }
+
+    /// Its acknowledgment number.
+    pub fn acknowledgment(&self) -> Option<u32> {
+        number_after(&self.content, "ack ")
+    }
+
+    /// How many bytes of data it carries.
+    pub fn length(&self) -> Option<u32> {
+        number_after(&self.content, "length ")
+    }
+
+    /// Whether it goes from where the other came from, and back.
+    pub fn is_answer_to(&self, other: &Packet) -> bool {
+        (&self.source, &self.destination) == (&other.destination, &other.source)
+    }
+
     /// Whether the other is this packet with other addresses and ports: what the director makes of it.
     pub fn is_rewritten_as(&self, other: &Packet) -> bool {
         (&self.identification, &self.flags, &self.content)
             == (&other.identification, &other.flags, &other.content)
     }
+}
+
+/// The number that stands behind a word of tcpdump's.
+fn number_after(content: &str, word: &str) -> Option<u32> {
+    let (_, rest) = content.split_once(word)?;
+    rest.split(|letter: char| !letter.is_ascii_digit()).next()?.parse().ok()
 }
 
 /// The number of the server whose balanced address and port that is.
@@ -157,6 +183,17 @@ mod tests {
             SEGMENT.replace("192.0.2.10.5432", "10.1.0.5.6432").replace("0x0866", "0xbc82");
         let handed = parse(HEADER, &handed).unwrap();
         assert!(handed.is_rewritten_as(&packet) && !handed.is_written() && handed != packet);
+    }
+
+    #[test]
+    fn numbers_of_a_segment_are_read() {
+        let packet = parse(HEADER, SEGMENT).unwrap();
+        let numbers = [packet.sequence(), packet.acknowledgment(), packet.length()];
+        assert_eq!(numbers, [Some(4079236795), Some(1738028477), Some(0)]);
+        let data =
+            SEGMENT.replace("seq 4079236795,", "seq 7:19,").replace("length 0", "length 12: data");
+        let data = parse(HEADER, &data).unwrap();
+        assert_eq!([data.sequence(), data.length()], [Some(7), Some(12)]);
     }
 
     #[test]

@@ -1,6 +1,6 @@
 //! A client that makes payments in one session, and looks after each whether the row is there and which replica answers.
 
-use crate::lab::network::balanced;
+use crate::lab::network::{balanced, CLIENT};
 use crate::lab::{fail, Failure, Lab};
 use crate::load::session::Session;
 use std::time::{Duration, Instant};
@@ -70,6 +70,23 @@ impl Client {
         let (first, past) = (self.first, self.first + RANGE);
         let sql = format!("select count(*) from payments where id >= {first} and id < {past}");
         self.expect(&sql, &[&self.committed.to_string()])
+    }
+
+    /// Says a statement that can't be answered any more, since the session was cut. Gives how long it took to learn that, and what the
+    /// client was told.
+    pub fn must_fail(&mut self) -> Result<(Duration, String), Failure> {
+        let begin = Instant::now();
+        match self.session.ask("select 1") {
+            Ok(_) => {
+                fail(format!("a session on replica {} was cut, and goes on", self.session.server))
+            }
+            Err(failure) => Ok((begin.elapsed(), failure.0)),
+        }
+    }
+
+    /// Its address and port.
+    pub fn address(&self) -> String {
+        format!("{CLIENT}:{}", self.session.port)
     }
 
     /// Whether a transaction is open.

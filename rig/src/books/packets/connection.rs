@@ -3,10 +3,12 @@
 use crate::books::looks::{Clock, Reading};
 use crate::books::{FINISHED, IDLE};
 
-/// When the director took a packet: after it was handed over and before it was written.
+/// When the director took a packet, or ended a connection by itself: no earlier than the one, no later than the other.
 #[derive(Clone, Copy, Debug)]
 pub struct Moment {
+    /// In seconds since 1970, as all times here.
     pub handed: f64,
+    /// No earlier than that.
     pub written: f64,
 }
 
@@ -16,6 +18,10 @@ pub enum Removal {
     Reset,
     /// Both sides had finished it, and its client's SYN came again.
     Renewal,
+    /// The director has ended it by itself: an operator told it to, or it was opening for too long.
+    Director,
+    /// The director's process was killed, and its table with it.
+    Loss,
 }
 
 /// A connection in the book.
@@ -25,6 +31,8 @@ pub struct Connection {
     pub server: usize,
     pub opened: Moment,
     pub last: Moment,
+    /// Whether nothing but opening SYNs has come from its client.
+    pub is_opening: bool,
     pub client_finished: bool,
     pub server_finished: bool,
     pub removed: Option<(Removal, Moment)>,
@@ -38,6 +46,7 @@ impl Connection {
             server,
             opened,
             last: opened,
+            is_opening: true,
             client_finished,
             server_finished,
             removed,
@@ -61,9 +70,19 @@ impl Connection {
         let how = match self.removed {
             Some((Removal::Reset, _)) => "reset".into(),
             Some((Removal::Renewal, _)) => "renewed".into(),
+            Some((Removal::Director, _)) => "ended by the director".into(),
+            Some((Removal::Loss, _)) => "lost with the table".into(),
             None => format!("counts for {} s", self.limit()),
         };
         format!("{} seen last at clock {last}, {how}", self.client)
+    }
+
+    /// The least and the greatest number of seconds from its opening to its removal, by the director's clock.
+    pub fn seconds_until_removed(&self, clock: &Clock) -> (i64, i64) {
+        let removed = self.removed.map_or(self.last, |(_, moment)| moment);
+        let (from, until) = clock.seconds(self.opened.handed, self.opened.written);
+        let (first, last) = clock.seconds(removed.handed, removed.written);
+        (first - until, last - from)
     }
 
     /// The least and the greatest number that it can add to a count that was read so.

@@ -4,17 +4,22 @@
 //! whose last segment is not acknowledged sends it again, after 0.2 s at first and then after twice the time of before; and
 //! a doubled FIN that finds its receiver closed is answered by an RST, which ends the connection at once. So this book is
 //! kept from the packets themselves: a connection counts until an RST, or until its idle limit after the last packet; one that
-//! both sides have finished, also no longer than until its client's next SYN, which opens another.
+//! both sides have finished, also no longer than until its client's next SYN, which opens another. What the director itself sends
+//! is held against why it may.
 
 mod connection;
+mod own;
+#[cfg(test)]
+mod own_tests;
 #[cfg(test)]
 mod tests;
 
 use crate::books::looks::{Clock, Look, Reading};
 use crate::lab::{ensure, fail, Failure};
 use crate::links::packet::{server_of, Packet};
-use connection::{Connection, Moment, Removal};
-use std::collections::{HashMap, VecDeque};
+pub use connection::Moment;
+use connection::{Connection, Removal};
+use std::collections::{HashMap, HashSet, VecDeque};
 use std::ops::RangeInclusive;
 
 /// How many connections a failure tells.
@@ -37,14 +42,24 @@ pub struct PacketBook {
     handed: HashMap<String, VecDeque<Packet>>,
     /// Packets that the director was handed and never wrote.
     pub refused: Vec<Packet>,
+    /// Those of them that it has answered with a reset, by their places there.
+    answered: HashSet<usize>,
 }
 
 impl PacketBook {
     /// Reads the packets of the director's device, in their order. Fails where a connection's packet goes to, or comes
-    /// from, another server than its first one.
-    pub fn read(packets: &[Packet], clock: &Clock) -> Result<PacketBook, Failure> {
+    /// from, another server than its first one. At each of these moments the director has lost its table.
+    pub fn read(
+        packets: &[Packet],
+        clock: &Clock,
+        losses: &[Moment],
+    ) -> Result<PacketBook, Failure> {
         let mut book = PacketBook::default();
+        let mut losses = losses.iter().peekable();
         for packet in packets {
+            if let Some(&loss) = losses.next_if(|loss| loss.written <= packet.time) {
+                book.lose_all(loss);
+            }
             if packet.is_written() {
                 book.written(packet, clock)?;
             } else {
@@ -55,6 +70,12 @@ impl PacketBook {
         Ok(book)
     }
 
+    fn lose_all(&mut self, moment: Moment) {
+        for connection in &mut self.connections {
+            connection.removed = connection.removed.or(Some((Removal::Loss, moment)));
+        }
+    }
+
     /// The director wrote a packet: it has taken the handed one that it was made from, and refused those before it.
     fn written(&mut self, packet: &Packet, clock: &Clock) -> Result<(), Failure> {
         let to = server_of(&packet.destination);
@@ -62,7 +83,7 @@ impl PacketBook {
         let waiting = self.handed.entry(client.into()).or_default();
         let place = waiting.iter().position(|handed| handed.is_rewritten_as(packet));
         let Some(place) = place else {
-            return fail(format!("the director wrote what it wasn't handed: {packet}"));
+            return self.written_by_itself(packet);
         };
         self.refused.extend(waiting.drain(..place));
         let handed = waiting.pop_front().expect("it was at that place");
@@ -79,7 +100,8 @@ impl PacketBook {
     /// Enters a packet that the director took.
     fn take(&mut self, taken: Taken, clock: &Clock) -> Result<(), Failure> {
         let Taken { client, server, inbound, flags, moment } = taken;
-        if inbound && flags.contains('S') && !flags.contains(['.', 'R', 'F']) {
+        let is_opening = flags.contains('S') && !flags.contains(['.', 'R', 'F']);
+        if inbound && is_opening {
             self.open(client, server, moment, clock);
         }
         let Some(&newest) = self.newest.get(client) else {
@@ -94,6 +116,7 @@ impl PacketBook {
         );
         ensure(connection.server == server, words)?;
         connection.last = moment;
+        connection.is_opening &= !inbound || is_opening;
         if flags.contains('R') {
             connection.removed = Some((Removal::Reset, moment));
         }
@@ -153,21 +176,21 @@ impl PacketBook {
             .count()
     }
 
-    /// A packet that the director was handed between these times and never wrote, though its connection was not reset before.
+    /// A packet that the director was handed between these times and never wrote, though its connection was not ended before.
     pub fn lost(&self, meanwhile: &RangeInclusive<f64>) -> Option<&Packet> {
         let mut refused = self.refused.iter().filter(|packet| meanwhile.contains(&packet.time));
-        refused.find(|packet| !self.is_after_reset(packet))
+        refused.find(|packet| !self.is_after_its_end(packet))
     }
 
-    /// Whether the packet's connection, by when it was handed over, had been reset.
-    fn is_after_reset(&self, packet: &Packet) -> bool {
+    /// Whether the packet's connection, by when it was handed over, had been ended.
+    fn is_after_its_end(&self, packet: &Packet) -> bool {
         let before = |connection: &&Connection| {
             connection.client == packet.client() && connection.opened.handed <= packet.time
         };
         let newest = self.connections.iter().rfind(before);
         newest
             .and_then(|connection| connection.removed)
-            .is_some_and(|(by, moment)| by == Removal::Reset && moment.handed <= packet.time)
+            .is_some_and(|(by, moment)| by != Removal::Renewal && moment.handed <= packet.time)
     }
 
     /// How many connections were opened from a port that came back while its finished connection still counted.

@@ -5,33 +5,35 @@ use crate::books::replaced::Replaced;
 use crate::lab::replacement::Replacement;
 use crate::lab::status::Status;
 
-const CLIENT: &str = "10.0.0.1.40000";
-const VIRTUAL: &str = "192.0.2.10.5432";
-const SERVERS: [&str; 2] = ["10.1.0.5.6432", "10.2.0.5.6432"];
+pub const CLIENT: &str = "10.0.0.1.40000";
+pub const VIRTUAL: &str = "192.0.2.10.5432";
+pub const SERVERS: [&str; 2] = ["10.1.0.5.6432", "10.2.0.5.6432"];
+
+/// A packet at that time.
+pub fn packet(time: f64, source: &str, destination: &str, flags: &str, content: &str) -> Packet {
+    let header = format!("{time} IP (tos 0x0, ttl 63, id 7, offset 0)");
+    let sum = "cksum 0x0000 (correct)";
+    let segment = format!("{source} > {destination}: Flags [{flags}], {sum}, {content}");
+    crate::links::packet::parse(&header, &segment).unwrap()
+}
 
 /// A packet that the director is handed at that time and the one that it writes then.
-fn taken(time: f64, server: usize, inbound: bool, flags: &str) -> [Packet; 2] {
-    let packet = |source, destination| {
-        let segment = format!("{source} > {destination}: Flags [{flags}], cksum 0x0000 (correct), seq {time}, length 0");
-        crate::links::packet::parse(
-            &format!("{time} IP (tos 0x0, ttl 63, id 7, offset 0)"),
-            &segment,
-        )
-        .unwrap()
-    };
+pub fn taken(time: f64, server: usize, inbound: bool, flags: &str) -> [Packet; 2] {
+    let content = format!("seq {time}, length 0");
+    let packet = |source, destination| packet(time, source, destination, flags, &content);
     match inbound {
         true => [packet(CLIENT, VIRTUAL), packet(CLIENT, SERVERS[server])],
         false => [packet(SERVERS[server], CLIENT), packet(VIRTUAL, CLIENT)],
     }
 }
 
-fn look(clock: u32, counts: [u32; 2]) -> Look {
+pub fn look(clock: u32, counts: [u32; 2]) -> Look {
     let status = Status::of_counts(clock, &counts);
     Look { before: f64::from(clock) + 0.5, after: f64::from(clock) + 0.6, status }
 }
 
 /// The clock of a director that was looked at twice in each of 1000 seconds, and showed 0 at time 0.
-fn clock() -> Clock {
+pub fn clock() -> Clock {
     let looks = (0..2000).map(|half| {
         let (clock, time) = (half / 2, f64::from(half / 2) + f64::from(half % 2) * 0.99);
         Look { before: time, after: time, ..look(clock, [0, 0]) }
@@ -40,7 +42,7 @@ fn clock() -> Clock {
 }
 
 fn book(packets: &[[Packet; 2]]) -> Result<PacketBook, Failure> {
-    PacketBook::read(&packets.concat(), &clock())
+    PacketBook::read(&packets.concat(), &clock(), &[])
 }
 
 fn check(packets: &[[Packet; 2]], looks: &[(u32, [u32; 2])]) -> Result<usize, Failure> {
@@ -129,14 +131,15 @@ fn what_is_not_written_was_refused_and_what_was_not_handed_is_not_written() {
     let [handed, written] = taken(10.1, 0, true, "S");
     let [refused, _] = taken(9.1, 0, true, "F.");
     let book =
-        PacketBook::read(&[refused.clone(), handed, written.clone(), refused], &clock()).unwrap();
+        PacketBook::read(&[refused.clone(), handed, written.clone(), refused], &clock(), &[])
+            .unwrap();
     assert_eq!((book.refused.len(), book.opened(0)), (2, 1));
-    assert!(PacketBook::read(&[written], &clock()).is_err());
+    assert!(PacketBook::read(&[written], &clock(), &[]).is_err());
 }
 
 /// What becomes of a replacement of that kind that began at that time, after these packets.
 fn check_replaced(packets: &[Packet], how: Replacement, before: f64, connections: u32) -> bool {
-    let book = PacketBook::read(packets, &clock()).unwrap();
+    let book = PacketBook::read(packets, &clock(), &[]).unwrap();
     let reading = Reading { before, after: before + 0.2, clock: before as u32 };
     Replaced { how, reading, connections }.check(&book, &clock()).is_ok()
 }

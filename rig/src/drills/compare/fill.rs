@@ -21,7 +21,8 @@ pub fn fill(lab: &Lab, director: &Director, clients: usize) -> Result<(), Failur
     ip(&[&["rule", "add"], &rule[..]].concat())?;
     let mut command = lab.command("director", FILL);
     let service = format!("{VIRTUAL}:{VIRTUAL_PORT}");
-    command.args([THEIRS, FIRST, &service, &clients.to_string()]);
+    // open: else they would be ended for their opening, while others are measured
+    command.args([THEIRS, FIRST, &service, &clients.to_string(), "16", "open"]);
     let _running = Running::start_ready(&mut command, &lab.run.join("fill.log"))?;
     ip(&["link", "set", THEIRS, "up"])?;
     wait_for("the table gets full", PATIENCE, || {

@@ -54,17 +54,19 @@ impl<'a, B: Book> Service<'a, B> {
         let replicas = Postgres::start_all(lab, REPLICAS)?;
         timeline.tell(format!("{REPLICAS} replicas run: PostgreSQL, each in a network namespace"));
         let director = Arc::new(Director::start(lab, options)?);
-        network::attach(lab, REPLICAS)?;
+        director.make_routes()?;
         let captures = Captures::start(lab, REPLICAS)?;
         timeline.tell(format!(
             "the director serves {VIRTUAL}:{VIRTUAL_PORT}, {}; tcpdump is on its device and on all its links",
             options.scheduler
         ));
         let clock_speed = options.clock_speed;
-        timeline.tell(format!(
-            "its clock runs {clock_speed} times as fast: the {FINISHED} s for which a finished connection counts take {} s",
-            FINISHED / clock_speed
-        ));
+        if clock_speed > 1 {
+            timeline.tell(format!(
+                "its clock runs {clock_speed} times as fast: the {FINISHED} s for which a finished connection counts take {} s",
+                FINISHED / clock_speed
+            ));
+        }
         let book = book(&director);
         let (clients, statements, opened, committed) = (Vec::new(), 0, 0, [0; REPLICAS]);
         Ok(Service {
@@ -157,6 +159,17 @@ impl<'a, B: Book> Service<'a, B> {
         self.book.ended(port, before, self.director.status()?.clock);
         self.look()?;
         Ok(())
+    }
+
+    /// A session was cut, and can't be ended any more; what it has committed counts.
+    pub fn lose(&mut self, client: Client) {
+        self.statements += client.statements;
+        self.committed[client.session.server] += client.committed;
+    }
+
+    /// A reset of that sequence number will be forged, and its checksums need not be right.
+    pub fn expect_forged(&mut self, sequence: u32) {
+        self.captures.forged.push(sequence);
     }
 
     /// Ends all sessions, and waits until every count reads zero. Gives the clock of that look.
