@@ -165,7 +165,7 @@ impl Drill<'_> {
             format!("by the packets {by_packets} were ended, by the metrics {ended}"),
         )?;
         timeline.tell(format!(
-            "{by_packets} connections were ended by the director, each forged and for its time of opening; {} packets of \
+            "{by_packets} connections were ended by the director, each forged, for {OPENING} s of nothing but SYNs; {} packets of \
              connections that it no longer knew were answered with a reset",
             verdict.book.answered()
         ));
