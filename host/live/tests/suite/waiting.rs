@@ -3,7 +3,6 @@
 
 use crate::support::Folder;
 use programs::SCRIPT;
-use std::fs;
 use std::io::{BufRead, BufReader, Read, Write};
 use std::os::unix::net::{UnixListener, UnixStream};
 use std::path::Path;
@@ -231,15 +230,18 @@ fn a_terminal_has_one_line_that_is_written_anew() {
 #[test]
 fn an_interrupt_leaves_the_terminal_clean() {
     let folder = Folder::new("interrupt");
-    let director = stand_in(&folder.file("sock"), &vec![left("a", "out", [3, 2, 119, 40]); 3]);
-    let mut command = on_terminal(&folder.file("sock"));
+    let socket = folder.file("sock");
+    // more than it can ask for: the director is there when Ctrl-C comes
+    let director = stand_in(&socket, &vec![left("a", "out", [3, 2, 119, 40]); 10_000]);
+    let mut command = on_terminal(&socket);
     let mut child = command.stdin(Stdio::piped()).stdout(Stdio::piped()).spawn().unwrap();
-    director.join().unwrap();
-    child.stdin.take().unwrap().write_all(b"\x03").unwrap();
+    let mut output = BufReader::new(child.stdout.take().unwrap());
     let mut out = String::new();
-    child.stdout.take().unwrap().read_to_string(&mut out).unwrap();
+    output.read_line(&mut out).unwrap();
+    child.stdin.take().unwrap().write_all(b"\x03").unwrap();
+    output.read_to_string(&mut out).unwrap();
     let code = child.wait().unwrap().code();
     assert!(matches!(code, Some(130 | 2)), "{code:?}");
     assert!(out.ends_with("\x1b[?7h\r\n^C"), "{out:?}");
-    drop(fs::remove_file(folder.file("sock")));
+    assert!(!stopped(director, &socket).is_empty());
 }
