@@ -23,6 +23,8 @@ pub const SYSCTL: Program = Program::named("sysctl");
 pub const SETPRIV: Program = Program::named("setpriv");
 /// A terminal for a program.
 pub const SCRIPT: Program = Program::named("script");
+/// A program with signals of its own, whatever its parent ignores.
+pub const ENV: Program = Program::named("env");
 /// A shell, for what a document tells to type.
 pub const BASH: Program = Program::named("bash");
 /// JSON, read by another program than its writer.

@@ -2,7 +2,7 @@
 //! is asked to, as an answer that is cut, or another director's.
 
 use crate::support::Folder;
-use programs::SCRIPT;
+use programs::{ENV, SCRIPT};
 use std::io::{BufRead, BufReader, Read, Write};
 use std::os::unix::net::{UnixListener, UnixStream};
 use std::path::Path;
@@ -206,7 +206,9 @@ fn a_reader_that_goes_does_not_end_the_wait() {
 /// A command for a terminal, which `script` makes.
 fn on_terminal(socket: &Path) -> Command {
     let program = env!("CARGO_BIN_EXE_nidhaagufctl");
-    let words = format!("{program} --socket {} wait 0", socket.display());
+    // whoever starts the tests in the background lets them ignore Ctrl-C
+    let own_signals = format!("{} --default-signal=INT", ENV.name());
+    let words = format!("{own_signals} {program} --socket {} wait 0", socket.display());
     let mut command = SCRIPT.command();
     command.args(["-qec", &words, "/dev/null"]).env("TERM", "xterm");
     command
