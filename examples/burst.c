@@ -3,7 +3,7 @@
  * packets of both ways, one call directs them all, and each place's record tells what to do with it. It prints
  * examples/burst.txt.
  *
- *     rt staticlib nidhaaguf
+ *     ./archives nidhaaguf
  *     cc -Iinclude examples/burst.c target/staticlib/libnidhaaguf.a -o burst
  *     ./burst | diff - examples/burst.txt
  */

@@ -2,7 +2,7 @@
  * The story of crates/story, told from C: setup, three connections, a drain by weight 0, FIN both ways, an RST, idle
  * time, and a count that reads zero. It prints examples/story.txt.
  *
- *     rt staticlib nidhaaguf
+ *     ./archives nidhaaguf
  *     cc -Iinclude examples/story.c target/staticlib/libnidhaaguf.a -o story
  *     ./story | diff - examples/story.txt
  */

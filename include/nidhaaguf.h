@@ -1,8 +1,8 @@
 /*
  * Nidhaaguf, a packet director: one virtual address and port over 1 to 64 servers, for TCP or UDP over IPv4.
  *
- * Eight calls, written and proved in Rattle (crates/nidhaaguf, crates/nidhaaguf_serve). Each is handed the state and gives
- * the state after it back, by value; the connection table (the row) and the packets are lent. The library keeps nothing
+ * Eight calls, written and proved in Rattle (crates/nidhaaguf, nidhaaguf_c, nidhaaguf_serve). Each is handed the state and
+ * gives the state after it back, by value; the connection table (the row) and the packets are lent. The library keeps nothing
  * between calls and allocates nothing.
  *
  * Six calls do one thing each. nidhaaguf_burst and nidhaaguf_serve are a tick and many packets under one judgement of the
@@ -23,8 +23,8 @@
  *     state = answer.state;
  *     if (answer.refusal == NIDHAAGUF_ACCEPTED) ..            // send the packet: it is rewritten for server answer.number
  *
- * Two archives, which `rt staticlib nidhaaguf` and `rt staticlib nidhaaguf_serve` write to target/staticlib; a program may
- * be linked with either or both. x86-64, System V calling convention.
+ * Two archives, which `./archives nidhaaguf nidhaaguf_serve` writes to target/staticlib; a program may be linked with
+ * either or both. x86-64, System V calling convention.
  * - libnidhaaguf.a has the six calls and nidhaaguf_burst. It calls nothing but memcpy and memset.
  * - libnidhaaguf_serve.a has nidhaaguf_serve alone. It calls the C library's read and write, too.
  *

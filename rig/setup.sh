@@ -18,8 +18,7 @@ quietly() {
 # The library's archives, proved, and the programs that cargo is asked for. What is up to date is for rt and cargo to decide; the
 # environment may name another archive and another place for what is built, which would not be these.
 build() { # CARGO'S ARGUMENTS
-    quietly rt staticlib nidhaaguf
-    quietly rt staticlib nidhaaguf_serve
+    quietly ./archives nidhaaguf nidhaaguf_serve
     (cd host && quietly env -u NIDHAAGUF_LIB cargo build --offline --target-dir target "$@")
 }
 

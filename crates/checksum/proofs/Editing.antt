@@ -8,7 +8,7 @@ use lib.Dec.{eqb}
 use borrow.Author.Tests.{eqb-true, eqb-false}
 use Rattle.lists.proofs.Cases.{truth}
 use Rattle.checksum.specs.Ones.{edited}
-use Rattle.checksum.specs.Laws.{Exception, Laws, EditingLaws}
+use Rattle.checksum.specs.Laws.{Exception, EditingLaws}
 use Rattle.checksum.proofs.Edits.{Congruent, edited_congruent, edited-fits}
 use Rattle.checksum.proofs.Laws.{laws}
 

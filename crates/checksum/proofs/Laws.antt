@@ -65,9 +65,9 @@ module _ (ws : List ℕ) (i : ℕ) (c : Checked ws i) where
 -- ---- an edit
 
 -- it gives FFFF in its exception
-exception-ones : (hc m m' : ℕ) → Exception hc m m' → edited hc m m' ≡ 65535
+exception_ones : (hc m m' : ℕ) → Exception hc m m' → edited hc m m' ≡ 65535
 unfolding edited
-exception-ones hc m m' w = rw (w.0, w.1, w.2) refl
+exception_ones hc m m' w = rw (w.0, w.1, w.2) refl
 
 module _ (ws : List ℕ) (i j m' : ℕ) (c : Checked ws i) (d : Edit ws i j m') where
   within : i < length (set ws j m')
@@ -117,7 +117,7 @@ module _ (ws : List ℕ) (i j m' : ℕ) (c : Checked ws i) (d : Edit ws i j m') 
 
   fresh_exactly : verifies ws ≡ true → (edited_at ws i j m' ≡ fresh (set (set ws j m') i 0)) ↔ (Exception (get_or ws i 0) (get_or ws j 0) m' → ⊥)
   fresh_exactly v = (
-    (λ e w. let ones = exception-ones (get_or ws i 0) (get_or ws j 0) m' w in
+    (λ e w. let ones = exception_ones (get_or ws i 0) (get_or ws j 0) m' w in
         let small = fresh_small in
         omega arith),
     (λ n. edited-fresh v (λ e. n (edited-ones (get_or ws i 0) (get_or ws j 0) m' (c.words.at i) (c.words.at j) e))),
@@ -127,7 +127,7 @@ pub laws : Laws
 laws = record {
   verifies_exactly = verifies_exactly;
   fresh_exactly = fresh_exactly;
-  ones_exactly = λ (hc m m' : ℕ) h l. (edited-ones hc m m' h l, exception-ones hc m m');
+  ones_exactly = λ (hc m m' : ℕ) h l. (edited-ones hc m m' h l, exception_ones hc m m');
   valid_fresh = valid_fresh;
   ones_fresh = ones_fresh;
 }

@@ -1,4 +1,6 @@
 // The Internet checksum: RFC 1071's sum over a slice of bytes, and RFC 1624's edit for one changed word.
+#![tactic(auto)]
+
 ghost use Rattle.std.specs.Prelude.{◌≡◌, ◌+◌, ◌*◌, ◌<◌, ◌≤◌, length};
 ghost use Rattle.checksum.specs.Ones.{carried, ones_add, words_of, word_at, ones_sum, verifies, edited};
 ghost use Rattle.checksum.specs.Ones.{group_of, groups_of, group_at, WholeGroups, total, Foldable, folded};

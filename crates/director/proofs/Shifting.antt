@@ -35,7 +35,7 @@ sent_same g v w p (Sender.Server i) address port = refl
 counted_forwards : (d : Director) (i c : ℕ) (walk : Walk) (k : ℕ) (p : List ℕ) (sender : Sender)
     → forwarded (with_servers d (with_count d.servers i c) walk) k p sender ≡ forwarded d k p sender
 counted_forwards d i c walk k p sender =
-    sent_same d.service _ (server_at d.servers k) p sender
+    sent_same d.service (server_at (with_count d.servers i c) k) (server_at d.servers k) p sender
     (field_set (λ (v : Server). v.address) d.servers i k _ refl) (field_set (λ (v : Server). v.port) d.servers i k _ refl)
 
 pub shifted_forwards : (d : Director) (s : Shift) (k : ℕ) (p : List ℕ) (sender : Sender) → forwarded (shifted d s) k p sender ≡ forwarded d k p sender

@@ -18,7 +18,7 @@ use table::slot::{SlotNo, server_no_at, slot_at};
 
 // The phase after a packet of a connection.
 fn phase_after(phase: u32, fin: bool, sender: Sender) -> u32
-    ensures* { λ r. ⌜ r ≡ phase_of phase fin sender ⌝ }
+    ensures { result ≡ phase_of phase fin sender }
 {
     match fin {
         false => phase,
@@ -40,7 +40,7 @@ fn phase_after(phase: u32, fin: bool, sender: Sender) -> u32
 // Sends a packet on: a client's to the server, a server's to its client.
 fn forward(packet: &mut [u8], service: Service, server: Server, sender: Sender)
     requires { Redirectable service.protocol packet.old }
-    ensures* { λ _. ⌜ packet.new ≡ sent_on service server packet.old sender ⌝ }
+    ensures { packet.new ≡ sent_on service server packet.old sender }
 {
     match sender {
         Sender::Client => {
@@ -74,9 +74,9 @@ fn pass(
     shift: Shift,
 ) -> Carried
     requires { Redirectable director.service.protocol packet.old }
-    ensures* packet { λ r. ⌜ packet.new ≡ forwarded director no.0 packet.old segment.sender ⌝ }
-    ensures* answer { λ r. ⌜ r.answer ≡ Answer.Passed no change ⌝ }
-    ensures* shift { λ r. ⌜ r.shift ≡ shift ⌝ }
+    ensures packet { packet.new ≡ forwarded director no.0 packet.old segment.sender }
+    ensures answer { result.answer ≡ Answer.Passed no change }
+    ensures shift { result.shift ≡ shift }
 {
     let service = director.service;
     let servers = director.servers;
@@ -97,8 +97,8 @@ fn keep(
     k: SlotNo,
 ) -> Carried
     requires { Ready director row.old packet.old k.0 }
-    ensures* can { λ r. ⌜ CanShift director r.shift ⌝ }
-    ensures* carried { λ r. ⌜ result_of (carried_by director r) row.new packet.new ≡ in_words (kept_held director (lent (slots row.old) packet.old) segment k.0) ⌝ }
+    ensures can { CanShift director result.shift }
+    ensures carried { result_of (carried_by director result) row.new packet.new ≡ in_words (kept_held director (lent (slots row.old) packet.old) segment k.0) }
 {
     let slot = slot_at(row, k);
     let no = slot.server;
@@ -118,8 +118,8 @@ fn end(
     k: SlotNo,
 ) -> Carried
     requires { EndReady director row.old packet.old k.0 }
-    ensures* can { λ r. ⌜ CanShift director r.shift ⌝ }
-    ensures* carried { λ r. ⌜ result_of (carried_by director r) row.new packet.new ≡ in_words (ended_held director (lent (slots row.old) packet.old) segment k.0) ⌝ }
+    ensures can { CanShift director result.shift }
+    ensures carried { result_of (carried_by director result) row.new packet.new ≡ in_words (ended_held director (lent (slots row.old) packet.old) segment k.0) }
 {
     let no = server_no_at(row, k);
     free_slot(row, k);
@@ -144,8 +144,8 @@ fn open(
     walk: Walk,
 ) -> Carried
     requires { OpenReady director row.old packet.old k.0 no.0 }
-    ensures* can { λ r. ⌜ CanShift director r.shift ⌝ }
-    ensures* carried { λ r. ⌜ result_of (carried_by director r) row.new packet.new ≡ in_words (opened_held director (lent (slots row.old) packet.old) segment k.0 no walk) ⌝ }
+    ensures can { CanShift director result.shift }
+    ensures carried { result_of (carried_by director result) row.new packet.new ≡ in_words (opened_held director (lent (slots row.old) packet.old) segment k.0 no walk) }
 {
     open_slot(row, k, segment.address, segment.port, no, director.clock);
     pass(
@@ -171,8 +171,8 @@ fn renew(
 ) -> Carried
     requires end_ready { EndReady director row.old packet.old old.0 }
     requires open_ready { OpenReady (with_one_less director (slot_at row.old old.0).server.0) (words (freed (slots row.old) old.0)) packet.old k.0 no.0 }
-    ensures* can { λ r. ⌜ CanShift director r.shift ⌝ }
-    ensures* carried { λ r. ⌜ result_of (carried_by director r) row.new packet.new ≡ in_words (renewed_held director (lent (slots row.old) packet.old) segment old.0 k.0 no walk) ⌝ }
+    ensures can { CanShift director result.shift }
+    ensures carried { result_of (carried_by director result) row.new packet.new ≡ in_words (renewed_held director (lent (slots row.old) packet.old) segment old.0 k.0 no walk) }
 {
     let from = server_no_at(row, old);
     free_slot(row, old);
@@ -196,8 +196,8 @@ pub fn carry_out(
     decision: Decision,
 ) -> Carried
     requires { Feasible director row.old packet.old decision }
-    ensures* can { λ r. ⌜ CanShift director r.shift ⌝ }
-    ensures* carried { λ r. ⌜ result_of (carried_by director r) row.new packet.new ≡ in_words (carried_out director (lent (slots row.old) packet.old) segment decision) ⌝ }
+    ensures can { CanShift director result.shift }
+    ensures carried { result_of (carried_by director result) row.new packet.new ≡ in_words (carried_out director (lent (slots row.old) packet.old) segment decision) }
 {
     match decision {
         Decision::Refuse(why) => decline(why),

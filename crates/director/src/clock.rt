@@ -9,7 +9,7 @@ use crate::state::Director;
 use table::expire::expire;
 
 // The state with a clock stored and the idle connections removed, and how many they were.
-#[derive(Drop)]
+#[derive(Clone, Copy)]
 pub struct Settled {
     pub director: Director,
     pub removed: u32,

@@ -11,7 +11,7 @@ use servers::{ServerNo, server_at, with_weight};
 
 // 15, then 5.
 fn judge_number(director: Director, row: &[u32], no: ServerNo) -> Verdict
-    ensures* { λ r. ⌜ r ≡ number_judged director row.now no.0 ⌝ }
+    ensures { result ≡ number_judged director row.now no.0 }
 {
     if !is_sound(director, row) {
         return Verdict::Refused(Refusal::Unsound);
@@ -26,7 +26,7 @@ fn judge_number(director: Director, row: &[u32], no: ServerNo) -> Verdict
 // The state with one weight set.
 fn with_server_weight(director: Director, no: ServerNo, weight: u16) -> Director
     requires { director.service.servers ≤ 64 }
-    ensures* { λ r. ⌜ r ≡ weighed director no.0 weight ⌝ }
+    ensures { result ≡ weighed director no.0 weight }
 {
     let service = director.service;
     let servers = director.servers;
@@ -46,7 +46,7 @@ fn with_server_weight(director: Director, no: ServerNo, weight: u16) -> Director
 
 // Sets a server's weight.
 pub fn set_weight(director: Director, row: &[u32], no: ServerNo, weight: u16) -> Outcome
-    ensures* { λ r. ⌜ result_of r row.now [] ≡ weight_of director row.now no.0 weight ⌝ }
+    ensures { result_of result row.now [] ≡ weight_of director row.now no.0 weight }
 {
     match judge_number(director, row, no) {
         Verdict::Refused(why) => refuse(director, why),
@@ -59,7 +59,7 @@ pub fn set_weight(director: Director, row: &[u32], no: ServerNo, weight: u16) ->
 
 // Tells a server's count, as of the latest accepted clock.
 pub fn count(director: Director, row: &[u32], no: ServerNo) -> Outcome
-    ensures* { λ r. ⌜ result_of r row.now [] ≡ count_call_of director row.now no.0 ⌝ }
+    ensures { result_of result row.now [] ≡ count_call_of director row.now no.0 }
 {
     match judge_number(director, row, no) {
         Verdict::Refused(why) => refuse(director, why),

@@ -18,7 +18,7 @@ use table::slot::{SlotNo, server_no_at, slot_at};
 
 // What is to become of a packet: its refusal, or its connection's slot and, where one opens, the server and the walk after the pick; where
 // one opens as another ends, that one's slot first.
-#[derive(Drop)]
+#[derive(Clone, Copy)]
 pub enum Decision {
     Refuse(Refusal),
     Keep(SlotNo),
@@ -103,8 +103,8 @@ fn decide_free(director: Director, k: SlotNo) -> Decision
 
 // A packet that would open a connection where the finished one in slot `k` ends: its slot counts as free, its server has one less.
 fn decide_renewal(director: Director, row: &[u32], k: SlotNo) -> Decision
-    requires k_in_bounds { k.0 < length row.now / words_per_slot }
-    requires bound { 1 ≤ count_at director.servers (slot_at row.now k.0).server.0 }
+    requires within { k.0 < length row.now / words_per_slot }
+    requires counted { 1 ≤ count_at director.servers (slot_at row.now k.0).server.0 }
     ensures { result ≡ on_renewal director (slots row.now) k }
 {
     let ended = with_one_less(director, server_no_at(row, k));
@@ -118,8 +118,8 @@ fn decide_renewal(director: Director, row: &[u32], k: SlotNo) -> Decision
 
 // A packet whose client has a connection, in slot `k`.
 fn decide_present(director: Director, row: &[u32], segment: Segment, k: SlotNo) -> Decision
-    requires row_value { sound_of director row.now ≡ true }
-    requires k_in_bounds { k.0 < length row.now / words_per_slot }
+    requires sound { sound_of director row.now ≡ true }
+    requires within { k.0 < length row.now / words_per_slot }
     ensures { result ≡ on_present director (slots row.now) segment k (slot_at row.now k.0) }
 {
     let slot = slot_at(row, k);

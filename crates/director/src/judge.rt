@@ -10,7 +10,7 @@ use servers::rules::{Rule, all_keep};
 use table::slot::is_row;
 
 // What is said of settings.
-#[derive(Drop)]
+#[derive(Clone, Copy)]
 pub enum Verdict {
     Accepted,
     Refused(Refusal),

@@ -18,8 +18,8 @@ use crate::state::{Carried, Director, Outcome, Refusal, Way, decline, outcome_of
 // A packet that got past 11: its refusal, 12 to 14, or what becomes of its connection.
 fn route(director: Director, row: &mut [u32], packet: &mut [u8], segment: Segment) -> Carried
     requires { (sound_of director row.old ≡ true) × Redirectable director.service.protocol packet.old }
-    ensures* can { λ r. ⌜ CanShift director r.shift ⌝ }
-    ensures* carried { λ r. ⌜ result_of (carried_by director r) row.new packet.new ≡ in_words (routed director (lent (slots row.old) packet.old) segment) ⌝ }
+    ensures can { CanShift director result.shift }
+    ensures carried { result_of (carried_by director result) row.new packet.new ≡ in_words (routed director (lent (slots row.old) packet.old) segment) }
 {
     let decision = decide(director, row, segment);
     carry_out(director, row, packet, segment, decision)
@@ -34,7 +34,7 @@ fn packet_sound(
     clock: u32,
 ) -> Outcome
     requires { sound_of director row.old ≡ true }
-    ensures* { λ r. ⌜ result_of r row.new packet.new ≡ in_words (packet_held way director (lent (slots row.old) packet.old) clock) ⌝ }
+    ensures { result_of result row.new packet.new ≡ in_words (packet_held way director (lent (slots row.old) packet.old) clock) }
 {
     match read_segment(way, director, packet) {
         Seen::Refused(why) => refuse(director, why),
@@ -53,8 +53,8 @@ fn packet_sound(
 // A packet call of a current state at its clock: there is nothing to judge and nothing to remove.
 pub fn take_current(way: Way, director: Director, row: &mut [u32], packet: &mut [u8]) -> Carried
     requires { Current director row.old }
-    ensures* can { λ r. ⌜ CanShift director r.shift ⌝ }
-    ensures* taken { λ r. ⌜ result_of (carried_by director r) row.new packet.new ≡ packet_of way director row.old packet.old director.clock ⌝ }
+    ensures can { CanShift director result.shift }
+    ensures taken { result_of (carried_by director result) row.new packet.new ≡ packet_of way director row.old packet.old director.clock }
 {
     match read_segment(way, director, packet) {
         Seen::Refused(why) => decline(why),
@@ -70,7 +70,7 @@ pub fn take_packet(
     packet: &mut [u8],
     clock: u32,
 ) -> Outcome
-    ensures* { λ r. ⌜ result_of r row.new packet.new ≡ packet_of way director row.old packet.old clock ⌝ }
+    ensures { result_of result row.new packet.new ≡ packet_of way director row.old packet.old clock }
 {
     if !is_sound(director, row) {
         return refuse(director, Refusal::Unsound);
@@ -80,14 +80,14 @@ pub fn take_packet(
 
 // Takes a packet from a client.
 pub fn inbound(director: Director, row: &mut [u32], packet: &mut [u8], clock: u32) -> Outcome
-    ensures* { λ r. ⌜ result_of r row.new packet.new ≡ packet_of Way.Inbound director row.old packet.old clock ⌝ }
+    ensures { result_of result row.new packet.new ≡ packet_of Way.Inbound director row.old packet.old clock }
 {
     take_packet(Way::Inbound, director, row, packet, clock)
 }
 
 // Takes a packet from a server.
 pub fn outbound(director: Director, row: &mut [u32], packet: &mut [u8], clock: u32) -> Outcome
-    ensures* { λ r. ⌜ result_of r row.new packet.new ≡ packet_of Way.Outbound director row.old packet.old clock ⌝ }
+    ensures { result_of result row.new packet.new ≡ packet_of Way.Outbound director row.old packet.old clock }
 {
     take_packet(Way::Outbound, director, row, packet, clock)
 }

@@ -8,14 +8,14 @@ use servers::rules::number_of;
 use servers::{Found, ServerNo};
 
 // Who sent a packet.
-#[derive(Drop)]
+#[derive(Clone, Copy)]
 pub enum Sender {
     Client,
     Server(ServerNo),
 }
 
 // A packet of the service: its client's address and port, its sender and its flags (all clear in UDP).
-#[derive(Drop)]
+#[derive(Clone, Copy)]
 pub struct Segment {
     pub address: u32,
     pub port: u16,
@@ -24,7 +24,7 @@ pub struct Segment {
 }
 
 // What reading a packet for the director finds.
-#[derive(Drop)]
+#[derive(Clone, Copy)]
 pub enum Seen {
     Refused(Refusal),
     Segment(Segment),

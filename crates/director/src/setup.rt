@@ -14,7 +14,7 @@ use table::clear::clear_row;
 // The state that an accepted setup makes.
 fn new_director(service: Service, servers: [Server; 64]) -> Director
     requires { service.servers ≤ 64 }
-    ensures* { λ r. ⌜ r ≡ new_director service servers ⌝ }
+    ensures { result ≡ new_director service servers }
 {
     let n = service.servers;
     let made = fresh_servers(servers, n);
@@ -36,7 +36,7 @@ pub fn set_up(
     servers: [Server; 64],
     row: &mut [u32],
 ) -> Outcome
-    ensures* { λ r. ⌜ result_of r row.new [] ≡ setup_of director service servers row.old ⌝ }
+    ensures { result_of result row.new [] ≡ setup_of director service servers row.old }
 {
     match judge_settings(service, servers, row) {
         Verdict::Refused(why) => refuse(director, why),

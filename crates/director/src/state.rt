@@ -12,7 +12,7 @@ use servers::{Server, ServerNo, lower, raise};
 
 // What the director serves: given by setup, and changed by nothing else.
 #[repr(C)]
-#[derive(Drop)]
+#[derive(Clone, Copy)]
 pub struct Service {
     // the virtual address and port
     pub address: u32,
@@ -27,7 +27,7 @@ pub struct Service {
 
 // The state that goes into a call and comes back from it; the connection table is lent beside it. The servers are not next to the
 // service: the two would be copied as one, and the compiler then leaves out fewer of the array's copies.
-#[derive(Drop)]
+#[derive(Clone, Copy)]
 pub struct Director {
     pub servers: [Server; 64],
     // what the servers' weights come to
@@ -38,14 +38,14 @@ pub struct Director {
 }
 
 // Which way a packet goes: from a client, or from a server.
-#[derive(Drop)]
+#[derive(Clone, Copy)]
 pub enum Way {
     Inbound,
     Outbound,
 }
 
 // Why a call is refused; `refusal_number` gives its number (SCOPE section 4).
-#[derive(Drop)]
+#[derive(Clone, Copy)]
 pub enum Refusal {
     // 1: number of servers or length of the row
     Size,
@@ -74,7 +74,7 @@ pub enum Refusal {
 }
 
 // What became of an accepted packet's connection.
-#[derive(Drop)]
+#[derive(Clone, Copy)]
 pub enum Change {
     Opened,
     Kept,
@@ -82,7 +82,7 @@ pub enum Change {
 }
 
 // What a call answers: a setup or weight call `Done`, a count or tick call a number, a packet call the server and the change.
-#[derive(Drop)]
+#[derive(Clone, Copy)]
 pub enum Answer {
     Done,
     Number(u32),
@@ -91,14 +91,14 @@ pub enum Answer {
 }
 
 // An answer, with the state beside it.
-#[derive(Drop)]
+#[derive(Clone, Copy)]
 pub struct Outcome {
     pub answer: Answer,
     pub director: Director,
 }
 
 // What a packet changes of the state. It is said by itself because most packets change nothing, and the state is copied where it changes.
-#[derive(Drop)]
+#[derive(Clone, Copy)]
 pub enum Shift {
     // nothing
     Same,
@@ -111,7 +111,7 @@ pub enum Shift {
 }
 
 // An answer, and what changes of the state.
-#[derive(Drop)]
+#[derive(Clone, Copy)]
 pub struct Carried {
     pub answer: Answer,
     pub shift: Shift,

@@ -12,7 +12,7 @@ use crate::state::{Answer, Director, Outcome, Refusal, refuse};
 // A tick of a sound state.
 fn tick_sound(director: Director, row: &mut [u32], clock: u32) -> Outcome
     requires { sound_of director row.old ≡ true }
-    ensures* { λ r. ⌜ result_of r row.new [] ≡ in_words (tick_held director (lent (slots row.old) []) clock) ⌝ }
+    ensures { result_of result row.new [] ≡ in_words (tick_held director (lent (slots row.old) []) clock) }
 {
     if clock < director.clock {
         return refuse(director, Refusal::EarlierClock);
@@ -27,7 +27,7 @@ fn tick_sound(director: Director, row: &mut [u32], clock: u32) -> Outcome
 
 // Moves the clock on, and tells how many idle connections that removed.
 pub fn tick(director: Director, row: &mut [u32], clock: u32) -> Outcome
-    ensures* { λ r. ⌜ result_of r row.new [] ≡ tick_of director row.old clock ⌝ }
+    ensures { result_of result row.new [] ≡ tick_of director row.old clock }
 {
     if !is_sound(director, row) {
         return refuse(director, Refusal::Unsound);

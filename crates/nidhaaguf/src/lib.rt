@@ -1,5 +1,8 @@
 // The director's six calls and the burst for C and Rust: the state by value as plain numbers (include/nidhaaguf.h), row and packets lent.
+// `nidhaaguf_c` exports them.
 // Each call decodes the state, calls the director and replies in numbers (SCOPE section 4). No call requires anything of its arguments.
+#![tactic(auto)]
+
 pub mod reply;
 pub mod state;
 
@@ -25,13 +28,7 @@ use serving::burst::burst;
 use state::{Servers, State, decode};
 
 // Sets up the service over the given servers.
-#[unsafe(no_mangle)]
-pub extern "C" fn nidhaaguf_set_up(
-    state: State,
-    service: Service,
-    servers: Servers,
-    row: &mut [u32],
-) -> Reply
+pub fn nidhaaguf_set_up(state: State, service: Service, servers: Servers, row: &mut [u32]) -> Reply
     ensures { replied result row.new [] ≡ exported state (setup_of (decoded state) service servers.server row.old) }
 {
     let settings = servers.server;
@@ -39,8 +36,7 @@ pub extern "C" fn nidhaaguf_set_up(
 }
 
 // Sets a server's weight.
-#[unsafe(no_mangle)]
-pub extern "C" fn nidhaaguf_set_weight(state: State, row: &[u32], number: u32, weight: u16) -> Reply
+pub fn nidhaaguf_set_weight(state: State, row: &[u32], number: u32, weight: u16) -> Reply
     ensures { replied result row.now [] ≡ exported state (weight_of (decoded state) row.now number weight) }
 {
     reply_of(
@@ -50,29 +46,21 @@ pub extern "C" fn nidhaaguf_set_weight(state: State, row: &[u32], number: u32, w
 }
 
 // Tells a server's count.
-#[unsafe(no_mangle)]
-pub extern "C" fn nidhaaguf_count(state: State, row: &[u32], number: u32) -> Reply
+pub fn nidhaaguf_count(state: State, row: &[u32], number: u32) -> Reply
     ensures { replied result row.now [] ≡ exported state (count_call_of (decoded state) row.now number) }
 {
     reply_of(state.place, count(decode(state), row, ServerNo(number)))
 }
 
 // Moves the clock on.
-#[unsafe(no_mangle)]
-pub extern "C" fn nidhaaguf_tick(state: State, row: &mut [u32], clock: u32) -> Reply
+pub fn nidhaaguf_tick(state: State, row: &mut [u32], clock: u32) -> Reply
     ensures { replied result row.new [] ≡ exported state (tick_of (decoded state) row.old clock) }
 {
     reply_of(state.place, tick(decode(state), row, clock))
 }
 
 // Takes a packet from a client.
-#[unsafe(no_mangle)]
-pub extern "C" fn nidhaaguf_inbound(
-    state: State,
-    row: &mut [u32],
-    packet: &mut [u8],
-    clock: u32,
-) -> Reply
+pub fn nidhaaguf_inbound(state: State, row: &mut [u32], packet: &mut [u8], clock: u32) -> Reply
     ensures { replied result row.new packet.new ≡ exported state (packet_of Way.Inbound (decoded state) row.old packet.old clock) }
 {
     reply_of(
@@ -82,13 +70,7 @@ pub extern "C" fn nidhaaguf_inbound(
 }
 
 // Takes a packet from a server.
-#[unsafe(no_mangle)]
-pub extern "C" fn nidhaaguf_outbound(
-    state: State,
-    row: &mut [u32],
-    packet: &mut [u8],
-    clock: u32,
-) -> Reply
+pub fn nidhaaguf_outbound(state: State, row: &mut [u32], packet: &mut [u8], clock: u32) -> Reply
     ensures { replied result row.new packet.new ≡ exported state (packet_of Way.Outbound (decoded state) row.old packet.old clock) }
 {
     reply_of(
@@ -98,8 +80,7 @@ pub extern "C" fn nidhaaguf_outbound(
 }
 
 // Moves the clock on, then takes the packets of a buffer at that clock, each by the call that its destination asks for.
-#[unsafe(no_mangle)]
-pub extern "C" fn nidhaaguf_burst(
+pub fn nidhaaguf_burst(
     state: State,
     row: &mut [u32],
     packets: &mut [u8],

@@ -11,7 +11,7 @@ use serving::told::told_by;
 
 // NidhaagufAnswer: the state after a call and its answer, 816 bytes.
 #[repr(C)]
-#[derive(Drop)]
+#[derive(Clone, Copy)]
 pub struct Reply {
     pub state: State,
     // 0 for accepted, else the refusal's number

@@ -10,7 +10,7 @@ use servers::{Server, ServerNo};
 // NidhaagufState: the director's state in plain numbers, 800 bytes. Service at 0, clock at 12, servers at 16, place at 784, level at 792,
 // largest weight at 794, divisor at 796.
 #[repr(C)]
-#[derive(Drop)]
+#[derive(Clone, Copy)]
 pub struct State {
     pub service: Service,
     pub clock: u32,
@@ -26,7 +26,7 @@ pub struct State {
 
 // NidhaagufServers: what setup is given (an array alone is not passed by value in C).
 #[repr(C)]
-#[derive(Drop)]
+#[derive(Clone, Copy)]
 pub struct Servers {
     pub server: [Server; 64],
 }

@@ -1,5 +1,7 @@
 // Packets taken from a descriptor and sent on to it, for C and Rust (include/nidhaaguf.h). It is a crate of its own because it alone calls the C
 // library: what is linked for the other calls needs no `read` and `write`.
+#![tactic(auto)]
+
 mod serve;
 
 ghost use Rattle.nidhaaguf_serve.specs.Serve.{ServedFrom};
@@ -11,7 +13,7 @@ use serve::serve;
 
 // NidhaagufServed: the state after the packets, the tick's answer, and how many packets there were, 816 bytes.
 #[repr(C)]
-#[derive(Drop)]
+#[derive(Clone, Copy)]
 pub struct Served {
     pub state: State,
     // the tick's: 0 for accepted, else the refusal's number

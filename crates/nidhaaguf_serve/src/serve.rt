@@ -27,10 +27,10 @@ fn take_told(
     counters: &mut [u64; 46],
 ) -> Carried
     requires { Current director row.old × (5 * k + 4 < length records.old) }
-    ensures* can { λ r. ⌜ CanShift director r.shift ⌝ }
-    ensures* taken { λ r. ⌜ result_of (carried_by director r) row.new packet.new ≡ taken_of director row.old packet.old ⌝ }
-    ensures* counters { λ r. ⌜ counters.new ≡ counted counters.old (way_of director.service.address packet.old) r.answer ⌝ }
-    ensures* records { λ r. ⌜ records.new ≡ traced records.old k (length packet.old) (way_of director.service.address packet.old) (told_by r.answer) ⌝ }
+    ensures can { CanShift director result.shift }
+    ensures taken { result_of (carried_by director result) row.new packet.new ≡ taken_of director row.old packet.old }
+    ensures counters { counters.new ≡ counted counters.old (way_of director.service.address packet.old) result.answer }
+    ensures records { records.new ≡ traced records.old k (length packet.old) (way_of director.service.address packet.old) (told_by result.answer) }
 {
     let service = director.service;
     let n = packet.len();
@@ -44,7 +44,7 @@ fn take_told(
 
 // Sends an accepted packet on: 1 where the device doesn't take it.
 fn send(descriptor: i32, packet: &[u8], answer: Answer) -> u32
-    ensures* { λ r. ⌜ r ≤ 1 ⌝ }
+    ensures { result ≤ 1 }
 {
     if !is_accepted(answer) {
         return 0;
@@ -56,7 +56,7 @@ fn send(descriptor: i32, packet: &[u8], answer: Answer) -> u32
 }
 
 // What one read came to.
-#[derive(Drop)]
+#[derive(Clone, Copy)]
 struct Exchange {
     // packets taken, 0 or 1, and how many of them were accepted and not sent
     taken: u32,
@@ -78,9 +78,9 @@ fn serve_packet(
     counters: &mut [u64; 46],
 ) -> Exchange
     requires { Current director row.old × (5 * k + 4 < length records.old) }
-    ensures* few { λ r. ⌜ (r.taken ≡ 1) × (r.unsent ≤ 1) × (r.end ≡ length packet.old) × (r.end ≡ length packet.new) ⌝ }
-    ensures* can { λ r. ⌜ CanShift director r.shift ⌝ }
-    ensures* served { λ r. ⌜ ((before : List ℕ) → Served (standing director row.old counters.old records.old k before) (standing (shifted director r.shift) row.new counters.new records.new (k + 1) (before ++ packet.new)) 1) ⌝ }
+    ensures few { (result.taken ≡ 1) × (result.unsent ≤ 1) × (result.end ≡ length packet.old) × (result.end ≡ length packet.new) }
+    ensures can { CanShift director result.shift }
+    ensures served { ((before : List ℕ) → Served (standing director row.old counters.old records.old k before) (standing (shifted director result.shift) row.new counters.new records.new (k + 1) (before ++ packet.new)) 1) }
 {
     let carried = take_told(director, row, packet, records, k, counters);
     let answer = carried.answer;
@@ -107,9 +107,9 @@ fn turn(
     counters: &mut [u64; 46],
 ) -> Exchange
     requires { Current director row.old × (5 * k + 4 < length records.old) }
-    ensures* few { λ r. ⌜ (r.taken ≤ 1) × (r.unsent ≤ r.taken) × (r.end ≤ length buffer.old) ⌝ }
-    ensures* can { λ r. ⌜ CanShift director r.shift ⌝ }
-    ensures* served { λ r. ⌜ ((before : List ℕ) → Served (standing director row.old counters.old records.old k before) (standing (shifted director r.shift) row.new counters.new records.new (k + r.taken) (before ++ take r.end buffer.new)) r.taken) ⌝ }
+    ensures few { (result.taken ≤ 1) × (result.unsent ≤ result.taken) × (result.end ≤ length buffer.old) }
+    ensures can { CanShift director result.shift }
+    ensures served { ((before : List ℕ) → Served (standing director row.old counters.old records.old k before) (standing (shifted director result.shift) row.new counters.new records.new (k + result.taken) (before ++ take result.end buffer.new)) result.taken) }
 {
     let n = io::count(libc::read(descriptor, buffer), buffer);
     if n == 0 {
@@ -144,9 +144,9 @@ fn turn_from(
     counters: &mut [u64; 46],
 ) -> Exchange
     requires { Current director row.old × (5 * k + 4 < length records.old) × (at ≤ length buffer.old) }
-    ensures* few { λ r. ⌜ (r.taken ≤ 1) × (r.unsent ≤ r.taken) × (r.end ≤ length buffer.old) ⌝ }
-    ensures* can { λ r. ⌜ CanShift director r.shift ⌝ }
-    ensures* served { λ r. ⌜ Served (standing director row.old counters.old records.old k (take at buffer.old)) (standing (shifted director r.shift) row.new counters.new records.new (k + r.taken) (take r.end buffer.new)) r.taken ⌝ }
+    ensures few { (result.taken ≤ 1) × (result.unsent ≤ result.taken) × (result.end ≤ length buffer.old) }
+    ensures can { CanShift director result.shift }
+    ensures served { Served (standing director row.old counters.old records.old k (take at buffer.old)) (standing (shifted director result.shift) row.new counters.new records.new (k + result.taken) (take result.end buffer.new)) result.taken }
 {
     let done = turn(
         descriptor,
@@ -171,7 +171,7 @@ fn turn_from(
 // last one was refused so that the caller wants to know at once.
 fn room_after(room: u32, taken: u32, left: usize, refusal: u32, stop: u32) -> u32
     requires { taken ≤ room }
-    ensures* { λ r. ⌜ (taken ≤ r) × (r ≤ room) ⌝ }
+    ensures { (taken ≤ result) × (result ≤ room) }
 {
     if left < 65536 {
         return taken;
@@ -183,7 +183,7 @@ fn room_after(room: u32, taken: u32, left: usize, refusal: u32, stop: u32) -> u3
 }
 
 // What many reads came to: the packets taken, how many of them were accepted and not sent, and where the last one ends.
-#[derive(Drop)]
+#[derive(Clone, Copy)]
 struct Progress {
     taken: u32,
     unsent: u32,
@@ -204,8 +204,8 @@ fn serve_current(
     stop: u32,
 ) -> Progress
     requires { Current director row.old }
-    ensures* few { λ r. ⌜ (r.taken ≤ packets_traced records.old most) × (r.unsent ≤ r.taken) ⌝ }
-    ensures* served { λ r. ⌜ Served (standing director row.old counters.old records.old 0 []) (standing r.director row.new counters.new records.new r.taken (take r.end buffer.new)) r.taken ⌝ }
+    ensures few { (result.taken ≤ packets_traced records.old most) × (result.unsent ≤ result.taken) }
+    ensures served { Served (standing director row.old counters.old records.old 0 []) (standing result.director row.new counters.new records.new result.taken (take result.end buffer.new)) result.taken }
 {
     let mut present = director;
     let mut taken = 0;
@@ -250,7 +250,7 @@ fn serve_current(
 }
 
 // What serving came to: the tick's answer beside that.
-#[derive(Drop)]
+#[derive(Clone, Copy)]
 pub struct Serving {
     pub answer: Answer,
     pub taken: u32,
@@ -272,10 +272,10 @@ pub fn serve(
     most: u32,
     stop: u32,
 ) -> Serving
-    ensures* answer { λ r. ⌜ r.answer ≡ (tick_of director row.old clock).answer ⌝ }
-    ensures* unread { λ r. ⌜ (is_accepted r.answer ≡ false → buffer.new ≡ buffer.old) ⌝ }
-    ensures* few { λ r. ⌜ (r.taken ≤ packets_after r.answer (packets_traced records.old most)) × (r.unsent ≤ r.taken) ⌝ }
-    ensures* served { λ r. ⌜ Served (after_tick director row.old counters.old records.old clock) (standing r.director row.new counters.new records.new r.taken (take r.end buffer.new)) r.taken ⌝ }
+    ensures answer { result.answer ≡ (tick_of director row.old clock).answer }
+    ensures unread { (is_accepted result.answer ≡ false → buffer.new ≡ buffer.old) }
+    ensures few { (result.taken ≤ packets_after result.answer (packets_traced records.old most)) × (result.unsent ≤ result.taken) }
+    ensures served { Served (after_tick director row.old counters.old records.old clock) (standing result.director row.new counters.new records.new result.taken (take result.end buffer.new)) result.taken }
 {
     let ticked = tick(director, row, clock);
     let answer = ticked.answer;

@@ -15,7 +15,7 @@ use Rattle.checksum.proofs.Words.{words-at, words_fit}
 use Rattle.checksum.proofs.Totals.{total, total-append, at_most_total}
 use Rattle.checksum.proofs.Edits.{Congruent}
 use Rattle.checksum.proofs.Laws.{verify_alike}
-use Rattle.packet.specs.Bytes.{address_at, header_length, payload_length, header, payload}
+use Rattle.packet.specs.Bytes.{address_at, header_length, payload_length, payload}
 use Rattle.packet.specs.Reading.{header_verifies}
 use Rattle.packet.specs.Redirect.{address_place, port_place, header_edited, redirected, Redirectable}
 use Rattle.packet.specs.Laws.{pseudo_header, transport_checksum, transport_verifies}

@@ -1,6 +1,6 @@
 -- What reading a packet finds (RFC 791, 9293, 768), and which of refusals 6, 20, 7, 8, 9 it meets (SCOPE 4.6 to 4.9, 4.20). Assumes nothing: these are
 -- definitions.
-use Rattle.std.specs.Prelude.{ℕ, ◌-◌, ◌*◌, ◌/◌, ◌%◌, ◌≤◌, ◌≡◌, List, [], ◌∷◌, Bool, true, false, cond, not, ◌||◌, length, get_or, take, drop, ltb, eqb}
+use Rattle.std.specs.Prelude.{ℕ, ◌-◌, ◌*◌, ◌/◌, ◌%◌, ◌≤◌, ◌≡◌, List, [], ◌∷◌, Bool, false, cond, not, ◌||◌, length, get_or, take, drop, ltb, eqb}
 use Rattle.checksum.specs.Ones.{word_at, words_of, verifies}
 use Rattle.packet.specs.Bytes.{address_at, header_length, total_length, header}
 use Rattle.packet.specs.declared.read.Flags.{Flags}

@@ -6,7 +6,7 @@ use crate::bytes::{address_at, bytes_in, header_length, length_at};
 use checksum::{is_valid, word_at};
 
 // The flags of a TCP header that connections go by.
-#[derive(Drop)]
+#[derive(Clone, Copy)]
 pub struct Flags {
     pub syn: bool,
     pub ack: bool,
@@ -15,7 +15,7 @@ pub struct Flags {
 }
 
 // A TCP or UDP header: its ports, and TCP's flags (UDP has none: all are false).
-#[derive(Drop)]
+#[derive(Clone, Copy)]
 pub struct TransportHeader {
     pub source: u16,
     pub destination: u16,
@@ -23,14 +23,14 @@ pub struct TransportHeader {
 }
 
 // What reading a transport part finds.
-#[derive(Drop)]
+#[derive(Clone, Copy)]
 pub enum Transport {
     Malformed,
     Carried(TransportHeader),
 }
 
 // Why a packet is refused, in the order of the tests; `fault_number` gives its number (SCOPE 4.6 to 4.9, 4.20).
-#[derive(Drop)]
+#[derive(Clone, Copy)]
 pub enum Fault {
     MalformedHeader,
     BadChecksum,
@@ -53,7 +53,7 @@ pub fn fault_number(fault: Fault) -> u8
 }
 
 // An IPv4 header that was read: its own length and the packet's in bytes, its addresses, and what it carries.
-#[derive(Drop)]
+#[derive(Clone, Copy)]
 pub struct Header {
     pub length: usize,
     pub total: usize,
@@ -63,14 +63,14 @@ pub struct Header {
 }
 
 // What reading a header finds.
-#[derive(Drop)]
+#[derive(Clone, Copy)]
 pub enum HeaderReading {
     Refused(Fault),
     Read(Header),
 }
 
 // A packet that was taken: its lengths in bytes, addresses, and what its transport header holds.
-#[derive(Drop)]
+#[derive(Clone, Copy)]
 pub struct Packet {
     pub header: usize,
     pub total: usize,
@@ -80,7 +80,7 @@ pub struct Packet {
 }
 
 // What reading a packet finds.
-#[derive(Drop)]
+#[derive(Clone, Copy)]
 pub enum Reading {
     Refused(Fault),
     Taken(Packet),

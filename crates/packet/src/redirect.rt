@@ -6,7 +6,7 @@ use crate::bytes::{address_at, header_length, length_at, set_address, set_word};
 use checksum::{edit, word_at};
 
 // Which address and port of a packet: those it comes from, or those it goes to.
-#[derive(Drop)]
+#[derive(Clone, Copy)]
 pub enum Side {
     Source,
     Destination,

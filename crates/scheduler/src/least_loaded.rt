@@ -8,7 +8,7 @@ use crate::walk::{Pick, Walk};
 use servers::{Server, ServerNo, server_at};
 
 // What is compared: counts (scheduler 3), or counts per weight (scheduler 4).
-#[derive(Drop)]
+#[derive(Clone, Copy)]
 pub enum Load {
     Count,
     PerWeight,

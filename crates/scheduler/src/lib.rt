@@ -1,6 +1,8 @@
 // Picks a server for a new connection, by one of the four published schedulers (SCOPE 1.4). A scheduler is one file: where its walk
 // starts, the walk's range, what a weight change makes of it, and the pick. Here a scheduler's number says which it is; the last arm is
 // scheduler 4, since refusals 2 and 15 let no other number come here.
+#![tactic(auto)]
+
 pub mod least_connection;
 pub mod least_loaded;
 pub mod ring;

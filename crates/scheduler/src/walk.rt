@@ -5,21 +5,21 @@ ghost use Rattle.scheduler.specs.Walk.{at_server, rests_at, held_walk};
 use servers::ServerNo;
 
 // The walk's place: before the first server (-1), or at a server.
-#[derive(Drop)]
+#[derive(Clone, Copy)]
 pub enum Place {
     Start,
     At(ServerNo),
 }
 
 // The walk: its place (i, or the last pick), and the level of weighted round-robin (cw in SCOPE 10.5).
-#[derive(Drop)]
+#[derive(Clone, Copy)]
 pub struct Walk {
     pub place: Place,
     pub level: u16,
 }
 
 // The server picked, with the walk after it.
-#[derive(Drop)]
+#[derive(Clone, Copy)]
 pub struct Pick {
     pub server: ServerNo,
     pub walk: Walk,

@@ -6,7 +6,7 @@ ghost use Rattle.scheduler.specs.Weights.{gcd_of, weights_of, weights_agree, non
 use servers::{Server, ServerNo};
 
 // The largest weight of the servers in use, and the greatest common divisor of their weights: both 0 where every weight is 0.
-#[derive(Drop)]
+#[derive(Clone, Copy)]
 pub struct Weights {
     pub largest: u16,
     pub divisor: u16,

@@ -1,4 +1,7 @@
 -- A packet call leaves as many bytes as it was handed. Assumes nothing.
+use lib.ListN.{get_or}
+use Rattle.servers.specs.Servers.{server_at}
+use Rattle.table.specs.Slots.{free_slot}
 use Rattle.std.proofs.Common.{◌≡◌, ℕ, Bool, true, false, ltb, List, length, refl, ⊎_elim}
 use Rattle.lists.proofs.Cases.{truth}
 use Rattle.packet.specs.declared.redirect.Side.{Side}
@@ -14,7 +17,7 @@ use Rattle.director.specs.declared.segment.Sender.{Sender}
 use Rattle.director.specs.declared.segment.Segment.{Segment}
 use Rattle.director.specs.declared.segment.Seen.{Seen}
 use Rattle.director.specs.declared.decide.Decision.{Decision}
-use Rattle.director.specs.State.{Lent, lent}
+use Rattle.director.specs.State.{Lent, lent, with_one_less, with_one_more}
 use Rattle.director.specs.Judge.{sound_of}
 use Rattle.director.specs.Tick.{settled, settled_lent}
 use Rattle.director.specs.Segment.{segment_read}
@@ -30,10 +33,12 @@ sent-length g v p (Sender.Server i) can = redirected-length g.protocol Side.Sour
 carried-length : (d : Director) (x : Lent (List Slot)) (m : Segment) (a : Decision) → Redirectable d.service.protocol x.packet
     → length (carried_out d x m a).lent.packet ≡ length x.packet
 carried-length d x m (Decision.Refuse why) can = refl
-carried-length d x m (Decision.Keep k) can = sent-length d.service _ x.packet m.sender can
-carried-length d x m (Decision.End k) can = sent-length d.service _ x.packet m.sender can
-carried-length d x m (Decision.Open k i walk) can = sent-length d.service _ x.packet m.sender can
-carried-length d x m (Decision.Renew old k i walk) can = sent-length d.service _ x.packet m.sender can
+carried-length d x m (Decision.Keep k) can = sent-length d.service (server_at d.servers (get_or x.table k.0 free_slot).server.0) x.packet m.sender can
+carried-length d x m (Decision.End k) can = sent-length d.service (server_at (with_one_less d (get_or x.table k.0 free_slot).server.0).servers (get_or x.table k.0 free_slot).server.0) x.packet m.sender can
+carried-length d x m (Decision.Open k i walk) can = sent-length d.service (server_at (with_one_more d i.0 walk).servers i.0) x.packet m.sender can
+carried-length d x m (Decision.Renew old k i walk) can =
+    let ended = with_one_less d (get_or x.table old.0 free_slot).server.0 in
+    sent-length d.service (server_at (with_one_more ended i.0 walk).servers i.0) x.packet m.sender can
 
 module _ (d : Director) (row p : List ℕ) (now : ℕ) where
   abbrev x : Lent (List Slot)

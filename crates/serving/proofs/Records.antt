@@ -40,6 +40,7 @@ module _ (b : Burst) where
   -- the records tell every packet's answer
   pub burst-told : (k m : ℕ) → k < m → m ≤ packets_in b.packets b.records → told_at (burst_of b m).records k ≡ told_by (answer_to k)
   unfolding fold_below
+  burst-told k zero h room = absurd (omega arith)
   burst-told k (suc m) h room =
       ⊎_elim
       (λ (e : ltb k m ≡ true). step_later m k (ltb-true k m e) ∙ burst-told k m (ltb-true k m e) (omega (arith, room)))

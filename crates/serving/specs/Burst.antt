@@ -1,5 +1,5 @@
 -- Packets in one lent buffer, taken one after another. Assumes nothing: these are definitions.
-use Rattle.std.specs.Prelude.{ℕ, zero, suc, ◌+◌, ◌*◌, ◌/◌, min, List, [], ◌∷◌, ◌++◌, length, take, drop, slice_index}
+use Rattle.std.specs.Prelude.{ℕ, zero, suc, ◌*◌, ◌/◌, min, List, [], ◌∷◌, ◌++◌, length, take, drop, slice_index}
 use Rattle.lists.specs.Fold.{fold_below}
 use Rattle.packet.specs.Bytes.{on_part}
 use Rattle.director.specs.declared.state.Director.{Director}

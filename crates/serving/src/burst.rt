@@ -14,9 +14,9 @@ use director::tick::tick;
 // One packet of a current state, by the call that it is given to.
 fn take_one(director: Director, row: &mut [u32], packet: &mut [u8]) -> Carried
     requires { Current director row.old }
-    ensures* can { λ r. ⌜ CanShift director r.shift ⌝ }
-    ensures* current { λ r. ⌜ Current (shifted director r.shift) row.new ⌝ }
-    ensures* taken { λ r. ⌜ result_of (carried_by director r) row.new packet.new ≡ taken_of director row.old packet.old ⌝ }
+    ensures can { CanShift director result.shift }
+    ensures current { Current (shifted director result.shift) row.new }
+    ensures taken { result_of (carried_by director result) row.new packet.new ≡ taken_of director row.old packet.old }
 {
     let service = director.service;
     take_current(way_of(service.address, packet), director, row, packet)
@@ -25,8 +25,8 @@ fn take_one(director: Director, row: &mut [u32], packet: &mut [u8]) -> Carried
 // The length of packet `k`.
 fn length_of(records: &[u32], k: usize) -> usize
     requires { 4 * k + 3 < length records.now }
-    ensures* r_value { λ r. ⌜ r ≡ length_of records.now k ⌝ }
-    ensures* r_bound { λ r. ⌜ r ≤ 2048 ⌝ }
+    ensures value { result ≡ length_of records.now k }
+    ensures bound { result ≤ 2048 }
 {
     let given = records[4 * k];
     if given < 2048 { given as usize } else { 2048 }
@@ -35,7 +35,7 @@ fn length_of(records: &[u32], k: usize) -> usize
 // Writes what packet `k` was answered.
 fn write_record(records: &mut [u32], k: usize, told: Told)
     requires { 4 * k + 3 < length records.old }
-    ensures* { λ _. ⌜ records.new ≡ recorded records.old k told ⌝ }
+    ensures { records.new ≡ recorded records.old k told }
 {
     write_told(records, 4 * k, told);
 }
@@ -49,9 +49,9 @@ fn burst_one(
     k: usize,
 ) -> Shift
     requires { Current director row.old × (4 * k + 3 < length records.old) × (2048 * k + 2048 ≤ length packets.old) }
-    ensures* can { λ r. ⌜ CanShift director r ⌝ }
-    ensures* current { λ r. ⌜ Current (shifted director r) row.new ⌝ }
-    ensures* taken { λ r. ⌜ bursting (shifted director r) row.new packets.new records.new ≡ burst_step (bursting director row.old packets.old records.old) k ⌝ }
+    ensures can { CanShift director result }
+    ensures current { Current (shifted director result) row.new }
+    ensures taken { bursting (shifted director result) row.new packets.new records.new ≡ burst_step (bursting director row.old packets.old records.old) k }
 {
     let n = length_of(records, k);
     let at = 2048 * k;
@@ -64,7 +64,7 @@ fn burst_one(
 
 // How many packets there are.
 fn packets_in(packets: &[u8], records: &[u32]) -> usize
-    ensures* { λ r. ⌜ r ≡ packets_in packets.now records.now ⌝ }
+    ensures { result ≡ packets_in packets.now records.now }
 {
     let places = packets.len() / 2048;
     let told = records.len() / 4;
@@ -79,7 +79,7 @@ fn burst_current(
     records: &mut [u32],
 ) -> Director
     requires { Current director row.old }
-    ensures* { λ r. ⌜ bursting r row.new packets.new records.new ≡ burst_of (bursting director row.old packets.old records.old) (packets_in packets.old records.old) ⌝ }
+    ensures { bursting result row.new packets.new records.new ≡ burst_of (bursting director row.old packets.old records.old) (packets_in packets.old records.old) }
 {
     let m = packets_in(packets, records);
     let mut present = director;
@@ -103,7 +103,7 @@ pub fn burst(
     records: &mut [u32],
     clock: u32,
 ) -> Outcome
-    ensures* { λ r. ⌜ burst_result r row.new packets.new records.new ≡ burst_call_of director row.old packets.old records.old clock ⌝ }
+    ensures { burst_result result row.new packets.new records.new ≡ burst_call_of director row.old packets.old records.old clock }
 {
     let ticked = tick(director, row, clock);
     let answer = ticked.answer;

@@ -8,7 +8,7 @@ use director::state::{Answer, Change, Way};
 // The first counter of a way: each has 23.
 fn first_of(way: Way) -> usize
     ensures value { result ≡ first_of way }
-    ensures upper_bound { result ≤ 23 }
+    ensures bound { result ≤ 23 }
 {
     match way {
         Way::Inbound => 0,
@@ -19,7 +19,7 @@ fn first_of(way: Way) -> usize
 // The counter of a change, among those of a way.
 fn change_index(change: Change) -> usize
     ensures value { result ≡ change_index change }
-    ensures upper_bound { result ≤ 22 }
+    ensures bound { result ≤ 22 }
 {
     match change {
         Change::Opened => 0,
@@ -31,7 +31,7 @@ fn change_index(change: Change) -> usize
 // The counter of an answer: refusals come after the changes, each at the place of its number.
 fn answer_index(answer: Answer) -> usize
     ensures value { result ≡ answer_index answer }
-    ensures upper_bound { result ≤ 22 }
+    ensures bound { result ≤ 22 }
 {
     match answer {
         Answer::Passed(_, change) => change_index(change),

@@ -7,7 +7,7 @@ use director::number::refusal_number;
 use director::state::{Answer, Change};
 
 // What an answer tells.
-#[derive(Drop)]
+#[derive(Clone, Copy)]
 pub struct Told {
     // 0 for accepted, else the refusal's number
     pub refusal: u32,

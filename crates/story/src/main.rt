@@ -1,4 +1,6 @@
 // A short story of one director: setup, three connections, a drain by weight 0, FIN both ways, an RST, idle time, and a count that reads zero.
+#![tactic(auto)]
+
 use director::control::{count, set_weight};
 use director::setup::set_up;
 use director::state::Director;

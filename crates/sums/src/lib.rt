@@ -1,4 +1,6 @@
 // The one's complement sum by itself, for C: to be counted and compared. The director's archives have no part of this one.
+#![tactic(auto)]
+
 ghost use Rattle.std.specs.Prelude.{◌≡◌};
 ghost use Rattle.checksum.specs.Ones.{words_of, ones_sum};
 

@@ -11,7 +11,7 @@ use crate::slot::{SEEN, SlotNo, WORDS, server_no_at};
 use servers::{Server, lower};
 
 // What expiry leaves beside the row: the servers, and how many connections were removed.
-#[derive(Drop)]
+#[derive(Clone, Copy)]
 pub struct Expired {
     pub servers: [Server; 64],
     pub removed: u32,
@@ -45,7 +45,7 @@ fn recent_after(clock: u32) -> u32
 
 // The idle limits in seconds, and the clock less the shortest of them (or 0): what the loop over the slots compares with. (With a test of
 // the protocol in it the compiler writes the loop twice; that is too long to be inlined, and costs copies of the state.)
-#[derive(Drop)]
+#[derive(Clone, Copy)]
 struct Limits {
     // phases 1 to 3
     running: u32,

@@ -8,7 +8,7 @@ ghost use Rattle.table.specs.declared.find.Found.{Found};
 use crate::slot::{ADDRESS, PORT, SlotNo, WORDS, is_unused_at};
 
 // The answer of a search.
-#[derive(Drop)]
+#[derive(Clone, Copy)]
 pub enum Found {
     At(SlotNo),
     Nothing,

@@ -1,5 +1,7 @@
 // The examples that are not proved (SCOPE E1 to E4), the published vectors of RFC 1071 and 1624, sums, edits in a row, renewals, header
 // checksums, and what the state holds of the weights, run.
+#![tactic(auto)]
+
 mod editing;
 mod header;
 mod renewal;

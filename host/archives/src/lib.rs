@@ -1,4 +1,4 @@
-//! For build scripts: finds the archives that `rt staticlib` writes, and links them.
+//! For build scripts: finds the archives that `./archives` writes, and links them.
 
 #![forbid(unsafe_code)]
 #![warn(missing_docs)]
@@ -7,7 +7,7 @@ use std::env;
 use std::ffi::OsString;
 use std::path::{Path, PathBuf};
 
-/// The libraries as `rt staticlib` and the linker know them.
+/// The libraries as `./archives` and the linker know them.
 const LIBRARIES: [&str; 3] = ["nidhaaguf", "nidhaaguf_serve", "sums"];
 
 /// Links the package at hand, a folder of `host/`, with these libraries; where one is missing, says so and ends the build.
@@ -28,7 +28,7 @@ fn archive(library: &str) -> String {
     format!("lib{library}.a")
 }
 
-/// What NIDHAAGUF_LIB gives (a directory with the archives, or one of them), or where `rt staticlib` writes them.
+/// What NIDHAAGUF_LIB gives (a directory with the archives, or one of them), or where `./archives` writes them.
 fn directory(given: Option<OsString>, package: &Path) -> PathBuf {
     let path = match given {
         Some(given) => PathBuf::from(given),
@@ -47,7 +47,7 @@ fn link_one(library: &str, directory: &Path) -> Result<(), String> {
     let found = path.canonicalize().map_err(|_| {
         format!(
             "The library {} is missing: there is no file {}.\n\
-             Run `rt staticlib {library}` at the top of the repository, which writes it to target/staticlib,\n\
+             Run `./archives {library}` at the top of the repository, which writes it to target/staticlib,\n\
              or set NIDHAAGUF_LIB to the directory that has it.",
             archive(library),
             path.display()
@@ -69,7 +69,7 @@ mod tests {
     }
 
     #[test]
-    fn without_a_given_one_it_is_where_rt_writes() {
+    fn without_a_given_one_it_is_where_the_command_writes() {
         let written = directory(None, Path::new("host/package"));
         assert_eq!(written, Path::new("host/package/../../target/staticlib"));
     }
@@ -88,7 +88,7 @@ mod tests {
     #[test]
     fn a_missing_archive_is_named_with_the_command_that_writes_it() {
         let complaint = link_one("nidhaaguf_serve", Path::new("nowhere")).unwrap_err();
-        for part in ["nowhere/libnidhaaguf_serve.a", "`rt staticlib nidhaaguf_serve`"] {
+        for part in ["nowhere/libnidhaaguf_serve.a", "`./archives nidhaaguf_serve`"] {
             assert!(complaint.contains(part), "{complaint}");
         }
     }

@@ -46,8 +46,8 @@
 //!
 //! # Building
 //!
-//! `rt staticlib nidhaaguf` and `rt staticlib nidhaaguf_serve` at the top of the repository write the two archives to
-//! target/staticlib, where this crate's build looks for them; the environment variable NIDHAAGUF_LIB names another place.
+//! `./archives nidhaaguf nidhaaguf_serve` at the top of the repository writes the two archives to target/staticlib, where
+//! this crate's build looks for them; the environment variable NIDHAAGUF_LIB names another place.
 
 #![deny(unsafe_code)]
 #![warn(missing_debug_implementations)]

@@ -46,13 +46,13 @@ pub fn read(path: &str) -> File {
     File { path: path.to_string(), text }
 }
 
-/// All files in a folder and the folders in it, without what cargo makes.
+/// All files in a folder and the folders in it, without what cargo and `rt` make.
 pub fn files_in(folder: &str) -> Vec<File> {
     let mut files = Vec::new();
     for entry in fs::read_dir(root().join(folder)).unwrap().map(Result::unwrap) {
         let path = format!("{folder}/{}", entry.file_name().to_str().unwrap());
         match entry.path().is_dir() {
-            true if path.ends_with("/target") => {}
+            true if path.ends_with("/target") || path.ends_with("/out") => {}
             true => files.extend(files_in(&path)),
             false => files.push(read(&path)),
         }

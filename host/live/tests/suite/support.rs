@@ -15,6 +15,7 @@ use reference::packets::{self, End, ACK, RST, SYN};
 use std::fs::{self, OpenOptions};
 use std::os::unix::net::UnixDatagram;
 use std::path::PathBuf;
+use std::sync::atomic::{AtomicUsize, Ordering};
 use std::thread;
 use std::time::Duration;
 
@@ -128,12 +129,14 @@ pub fn quiet_log() -> Log {
     Log::new(Output::new(nowhere), Form::Plain)
 }
 
-/// A folder of its own for a test, removed in the end.
+/// A folder of its own for a test, also where another test gives the same name; removed in the end.
 pub struct Folder(pub PathBuf);
 
 impl Folder {
     pub fn new(name: &str) -> Folder {
-        let path = std::env::temp_dir().join(format!("nidhaaguf-{}-{name}", std::process::id()));
+        static MADE: AtomicUsize = AtomicUsize::new(0);
+        let (process, number) = (std::process::id(), MADE.fetch_add(1, Ordering::Relaxed));
+        let path = std::env::temp_dir().join(format!("nidhaaguf-{process}-{number}-{name}"));
         fs::create_dir(&path).unwrap();
         Folder(path)
     }
