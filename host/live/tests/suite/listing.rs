@@ -230,15 +230,16 @@ fn the_longest_answer_is_made_soon() {
     let text = listing.text();
     let made = begin.elapsed();
     let json = format!("{}\n", listing.json());
+    let all = begin.elapsed();
     println!(
         "{taken:?} taken, {made:?} with text of {} bytes, {:?} for JSON of {} bytes",
         text.len(),
-        begin.elapsed() - made,
+        all - made,
         json.len()
     );
     assert_eq!(text.lines().count(), 4_097);
     assert_eq!(jq(&json, ".connections | length"), "4096");
-    assert!(begin.elapsed() < Duration::from_secs(1), "{:?}", begin.elapsed());
+    assert!(all < Duration::from_secs(1), "{all:?}");
 }
 
 /// The longest answer, for a client that takes 8 KiB each four seconds, by a socket as the daemon's.

@@ -1,10 +1,11 @@
 //! The log: its lines, and what becomes of those that nobody takes.
 
+use crate::wait::wait_until;
 use live::log::line::{self, Form, MOST_BYTES};
 use live::log::output::Output;
 use live::log::{Level, Log};
 use std::fs::{File, OpenOptions};
-use std::io::{self, PipeReader, Read};
+use std::io::{self, PipeReader, PipeWriter, Read, Write};
 use std::os::fd::{AsRawFd, OwnedFd};
 use std::os::unix::fs::OpenOptionsExt;
 use std::time::{Duration, SystemTime};
@@ -16,7 +17,19 @@ fn time(seconds: u64) -> SystemTime {
 
 fn piped_log() -> (Log, PipeReader) {
     let (reader, writer) = io::pipe().unwrap();
-    (Log::new(Output::new(File::from(OwnedFd::from(writer))), Form::Journal), reader)
+    (log_at(writer), reader)
+}
+
+fn log_at(writer: PipeWriter) -> Log {
+    Log::new(Output::new(File::from(OwnedFd::from(writer))), Form::Journal)
+}
+
+/// A log whose reader has gone: a program that another test starts meanwhile has the reader too until it runs.
+fn log_without_reader() -> Log {
+    let (reader, mut writer) = io::pipe().unwrap();
+    drop(reader);
+    wait_until("the pipe has no reader", || writer.write(b"x").is_err());
+    log_at(writer)
 }
 
 #[test]
@@ -128,9 +141,7 @@ fn a_line_that_was_cut_is_ended() {
 #[test]
 fn a_log_that_fails_is_counted() {
     let full = OpenOptions::new().write(true).open("/dev/full").unwrap();
-    let (mut closed, reader) = piped_log();
-    drop(reader);
-    for log in [&mut Log::new(Output::new(full), Form::Plain), &mut closed] {
+    for log in [&mut Log::new(Output::new(full), Form::Plain), &mut log_without_reader()] {
         (0..3).for_each(|_| log.error("text"));
         assert_eq!((log.position().lines, log.position().lost), (0, 3));
     }
@@ -139,8 +150,7 @@ fn a_log_that_fails_is_counted() {
 /// Lines of before count on in the log that goes on, and what was lost is told by that.
 #[test]
 fn a_log_goes_on_from_a_position() {
-    let (mut lost, reader) = piped_log();
-    drop(reader);
+    let mut lost = log_without_reader();
     lost.info("lost");
     let (mut log, mut reader) = piped_log();
     log.info("first");

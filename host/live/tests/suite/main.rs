@@ -32,4 +32,6 @@ mod state_file;
 mod support;
 mod texts;
 mod told;
+#[path = "../shared/wait.rs"]
+mod wait;
 mod waiting;
