@@ -11,7 +11,8 @@ use std::path::PathBuf;
 use std::process::{Child, Command, Stdio};
 use std::time::{Duration, Instant};
 
-pub use crate::wait::{wait_until, PATIENCE};
+/// Long enough for a busy machine; nothing waits so long where all is well.
+pub const PATIENCE: Duration = Duration::from_secs(10);
 
 /// A daemon that said it is ready, with its device up.
 pub struct Daemon {
@@ -222,6 +223,15 @@ impl Drop for Daemon {
     fn drop(&mut self) {
         let _ = self.child.kill();
         let _ = self.child.wait();
+    }
+}
+
+/// Waits for a condition.
+pub fn wait_until(what: &str, mut is_so: impl FnMut() -> bool) {
+    let deadline = Instant::now() + PATIENCE;
+    while !is_so() {
+        assert!(Instant::now() < deadline, "{what}: it doesn't come to that");
+        std::thread::sleep(Duration::from_millis(1));
     }
 }
 

@@ -32,8 +32,6 @@ mod signals;
 mod stand_ins;
 mod state_files;
 mod takeovers;
-#[path = "../shared/wait.rs"]
-mod wait;
 mod waits;
 
 use rig::Rig;

@@ -1,6 +1,6 @@
 //! One client of the control socket, at the other end of a pair of sockets.
 
-use crate::wait::wait_until;
+use crate::support::await_end;
 use live::control::connection::{Connection, MOST_COMMAND, PATIENCE};
 use std::io::{Read, Write};
 use std::net::Shutdown;
@@ -11,15 +11,6 @@ fn pair(now: Instant) -> (UnixStream, Connection) {
     let (client, server) = UnixStream::pair().unwrap();
     server.set_nonblocking(true).unwrap();
     (client, Connection::new(server, 0, now))
-}
-
-/// The client goes, and that is seen as soon as it is so: a program that another test starts meanwhile has this end too until it runs.
-fn must_end_with(client: UnixStream, mut connection: Connection, now: Instant) {
-    drop(client);
-    wait_until("the client's end is seen", || {
-        connection.exchange(now);
-        connection.is_over(now)
-    });
 }
 
 #[test]
@@ -83,8 +74,11 @@ fn silence_ends_the_connection() {
     connection.exchange(now);
     assert!(connection.is_over(now + PATIENCE));
     drop(client);
-    let (client, connection) = pair(now);
-    must_end_with(client, connection, now);
+    let (client, mut connection) = pair(now);
+    drop(client);
+    await_end(connection.waited());
+    connection.exchange(now);
+    assert!(connection.is_over(now));
 }
 
 /// As while a take-over fails, for which the director is needed.
@@ -134,7 +128,10 @@ fn a_watcher_that_goes_or_speaks_is_over() {
     connection.watch("", 0, "", now);
     connection.exchange(now);
     assert!(!connection.is_over(now));
-    must_end_with(client, connection, now);
+    drop(client);
+    await_end(connection.waited());
+    connection.exchange(now);
+    assert!(connection.is_over(now));
     let (mut client, mut connection) = pair(now);
     connection.watch("", 0, "", now);
     client.write_all(b"status\n").unwrap();

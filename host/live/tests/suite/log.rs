@@ -1,11 +1,12 @@
 //! The log: its lines, and what becomes of those that nobody takes.
 
-use crate::wait::wait_until;
+use crate::support::await_end;
 use live::log::line::{self, Form, MOST_BYTES};
 use live::log::output::Output;
 use live::log::{Level, Log};
+use live::system::Waited;
 use std::fs::{File, OpenOptions};
-use std::io::{self, PipeReader, PipeWriter, Read, Write};
+use std::io::{self, PipeReader, PipeWriter, Read};
 use std::os::fd::{AsRawFd, OwnedFd};
 use std::os::unix::fs::OpenOptionsExt;
 use std::time::{Duration, SystemTime};
@@ -24,11 +25,11 @@ fn log_at(writer: PipeWriter) -> Log {
     Log::new(Output::new(File::from(OwnedFd::from(writer))), Form::Journal)
 }
 
-/// A log whose reader has gone: a program that another test starts meanwhile has the reader too until it runs.
+/// A log whose reader has gone.
 fn log_without_reader() -> Log {
-    let (reader, mut writer) = io::pipe().unwrap();
+    let (reader, writer) = io::pipe().unwrap();
     drop(reader);
-    wait_until("the pipe has no reader", || writer.write(b"x").is_err());
+    await_end(Waited::new(&writer, false, false));
     log_at(writer)
 }
 

@@ -32,6 +32,4 @@ mod state_file;
 mod support;
 mod texts;
 mod told;
-#[path = "../shared/wait.rs"]
-mod wait;
 mod waiting;

@@ -8,7 +8,7 @@ use live::policy::{Policy, Unknown};
 use live::segments::Segment;
 use nidhaaguf::Refusal;
 use reference::packets::{self, transport_verifies};
-use std::net::SocketAddrV4;
+use std::net::{Shutdown, SocketAddrV4};
 use std::os::unix::net::UnixDatagram;
 
 fn client(port: u16) -> SocketAddrV4 {
@@ -174,7 +174,7 @@ fn segments_that_are_not_taken_are_counted() {
     let mut instance = with_resets(with_connections(3));
     instance.disconnect(client(1));
     let (link, device) = UnixDatagram::pair().unwrap();
-    drop(link);
+    link.shutdown(Shutdown::Read).unwrap();
     instance.send(&device);
     assert_eq!(instance.counters().write_failures, 3);
     instance.send(&device);

@@ -10,6 +10,7 @@ use live::log::line::Form;
 use live::log::output::Output;
 use live::log::Log;
 use live::policy::{Policy, Unknown};
+use live::system::{self, Waited};
 use nidhaaguf::Trace;
 use reference::packets::{self, End, ACK, RST, SYN};
 use std::fs::{self, OpenOptions};
@@ -121,6 +122,13 @@ pub fn small_snapshot() -> Snapshot {
     [[0x60; 40], [0x61; 40]].iter().for_each(|noise| drop(pass(&mut instance, noise)));
     instance.set_down(1, true).unwrap();
     Snapshot { id: Id::of_number(0x0123_4567_89AB_CDEF), ..Snapshot::of(&instance, &log) }
+}
+
+/// Waits until the other end of a file, which was dropped, is closed: a program that another test starts meanwhile has it too until it runs.
+pub fn await_end(file: Waited) {
+    let mut end = [file];
+    system::wait(&mut end, Duration::from_secs(10)).unwrap();
+    assert!(end[0].is_ready(), "the other end isn't closed");
 }
 
 /// A log that nobody reads.

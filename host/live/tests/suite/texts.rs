@@ -7,6 +7,7 @@ use live::control::load::Load;
 use live::control::{metrics, status};
 use live::instance::Instance;
 use nidhaaguf::Trace;
+use std::net::Shutdown;
 use std::os::unix::net::UnixDatagram;
 use std::time::Duration;
 
@@ -111,7 +112,7 @@ fn metrics_tell_the_counts() {
 fn fail_to_write(instance: &mut Instance) {
     let (link, device) = UnixDatagram::pair().unwrap();
     link.send(&syn(1)).unwrap();
-    drop(link);
+    link.shutdown(Shutdown::Read).unwrap();
     assert_eq!(instance.serve(&device, &mut Trace::new(1), 1).unwrap().unsent, 1);
 }
 

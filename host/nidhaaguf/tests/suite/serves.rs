@@ -3,6 +3,7 @@
 use crate::support::{settings, syn_from, turned, SYN};
 use nidhaaguf::{Change, Counters, Director, End, Refusal, Served, Trace, Way};
 use std::io::ErrorKind;
+use std::net::Shutdown;
 use std::os::unix::net::UnixDatagram;
 
 /// A director with one server and one slot, its descriptor (which doesn't wait) and the other end of that.
@@ -72,7 +73,7 @@ fn each_end_is_told() {
 fn a_packet_that_nobody_takes_is_unsent() {
     let (mut director, device, other_end) = scene();
     other_end.send(&SYN).unwrap();
-    drop(other_end);
+    other_end.shutdown(Shutdown::Read).unwrap();
     let mut counters = Counters::new();
     let served = serve(&mut director, &device, &mut counters, 1).unwrap();
     assert_eq!((served.taken, served.unsent), (1, 1));
