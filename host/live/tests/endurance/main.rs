@@ -22,6 +22,8 @@ mod listings;
 mod logs;
 mod model;
 mod operators;
+#[path = "../shared/own_path.rs"]
+mod own_path;
 mod packets;
 mod place;
 mod reloads;

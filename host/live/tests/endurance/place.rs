@@ -1,20 +1,18 @@
 //! A directory for a daemon, and the commands that are run there.
 
+use crate::own_path::own_path;
 use programs::SETPRIV;
 use std::fs;
 use std::os::unix::fs::PermissionsExt;
 use std::path::{Path, PathBuf};
 use std::process::{Command, Stdio};
-use std::sync::atomic::{AtomicUsize, Ordering};
 
-/// A directory that other users may look into, its own also where another test gives the same name; removed in the end.
+/// A directory that other users may look into, removed in the end.
 pub struct Place(pub PathBuf);
 
 impl Place {
     pub fn new(name: &str) -> Place {
-        static MADE: AtomicUsize = AtomicUsize::new(0);
-        let (process, number) = (std::process::id(), MADE.fetch_add(1, Ordering::Relaxed));
-        let path = std::env::temp_dir().join(format!("nidhaaguf-{process}-{number}-{name}"));
+        let path = own_path(name);
         fs::create_dir(&path).unwrap();
         fs::set_permissions(&path, fs::Permissions::from_mode(0o755)).unwrap();
         Place(path)

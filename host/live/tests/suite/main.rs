@@ -20,6 +20,8 @@ mod log;
 mod manual;
 mod metrics;
 mod operator;
+#[path = "../shared/own_path.rs"]
+mod own_path;
 mod packet_thread;
 mod packets;
 mod recorded;

@@ -1,5 +1,6 @@
 //! What the tests share: an instance without a device, the packets it is given, and what is handed on of it.
 
+use crate::own_path::own_path;
 use live::clock::Clock;
 use live::config::flags::Flags;
 use live::config::setup;
@@ -16,7 +17,6 @@ use reference::packets::{self, End, ACK, RST, SYN};
 use std::fs::{self, OpenOptions};
 use std::os::unix::net::UnixDatagram;
 use std::path::PathBuf;
-use std::sync::atomic::{AtomicUsize, Ordering};
 use std::thread;
 use std::time::Duration;
 
@@ -137,14 +137,12 @@ pub fn quiet_log() -> Log {
     Log::new(Output::new(nowhere), Form::Plain)
 }
 
-/// A folder of its own for a test, also where another test gives the same name; removed in the end.
+/// A folder of its own for a test, removed in the end.
 pub struct Folder(pub PathBuf);
 
 impl Folder {
     pub fn new(name: &str) -> Folder {
-        static MADE: AtomicUsize = AtomicUsize::new(0);
-        let (process, number) = (std::process::id(), MADE.fetch_add(1, Ordering::Relaxed));
-        let path = std::env::temp_dir().join(format!("nidhaaguf-{process}-{number}-{name}"));
+        let path = own_path(name);
         fs::create_dir(&path).unwrap();
         Folder(path)
     }
