@@ -1,4 +1,5 @@
 -- Demand 1 holds of every call: the refusal is exactly that of the lowest-placed failing test, and it leaves what it should. Assumes nothing.
+use Rattle.std.specs.Prelude.{Ok, Err}
 use Prim.Native.Nat.{ℕ, ◌≤◌}
 use mathlib.Core.Bool.{Bool, true, false, ◌||◌, true≢false}
 use mathlib.Core.List.{List, [], ◌∷◌}
@@ -14,12 +15,11 @@ use Rattle.director.specs.declared.state.Refusal.{Refusal}
 use Rattle.director.specs.declared.state.Answer.{Answer}
 use Rattle.director.specs.declared.state.Way.{Way}
 use Rattle.director.specs.declared.segment.Segment.{Segment}
-use Rattle.director.specs.declared.segment.Seen.{Seen}
+use Rattle.director.specs.Segment.{Read, segment_read}
 use Rattle.director.specs.declared.decide.Decision.{Decision}
 use Rattle.director.specs.State.{refusal_number, keeps_clock, changes_nothing, lent, Held, in_words}
 use Rattle.director.specs.Judge.{sound_of}
 use Rattle.director.specs.Tick.{settled_slots}
-use Rattle.director.specs.Segment.{segment_read}
 use Rattle.director.specs.Decide.{decided}
 use Rattle.director.specs.Carry.{carried_out}
 use Rattle.director.specs.Packets.{routed, on_clock, on_seen, packet_held, packet_on_sound, packet_of}
@@ -106,9 +106,9 @@ module _ (s : State) (way : Way) (p : List ℕ) (now : ℕ) where
   by_clock m true late = absurd (early 11 (omega arith) late)
   by_clock m false late = by_decision m (decided (settled_at s now).director (settled_slots d (slots s.row) now) m) late
 
-  by_seen : (x : Seen) → EarlySeen x → Goal (on_seen d (lent (slots s.row) p) now x)
-  by_seen (Seen.Refused why) known late = absurd (back why known.back late)
-  by_seen (Seen.Segment m) known late = by_clock m (ltb now d.clock) late
+  by_seen : (x : Read) → EarlySeen x → Goal (on_seen d (lent (slots s.row) p) now x)
+  by_seen (Err why) known late = absurd (back why known.back late)
+  by_seen (Ok m) known late = by_clock m (ltb now d.clock) late
 
   packet_settled : Late (number_given (packet_of way d s.row p now).answer) → Left (settled_at s now) p (packet_of way d s.row p now)
   unfolding packet_of packet_held

@@ -1,4 +1,5 @@
 -- Demand 2 holds of every packet call. Assumes nothing.
+use Rattle.std.specs.Prelude.{Ok, Err}
 use Prim.Native.Nat.{ℕ, ◌<◌}
 use mathlib.Core.Bool.{Bool, true, false, true≢false}
 use mathlib.Core.List.{List}
@@ -37,12 +38,11 @@ use Rattle.director.specs.declared.state.Answer.{Answer}
 use Rattle.director.specs.declared.state.Way.{Way}
 use Rattle.director.specs.declared.segment.Sender.{Sender}
 use Rattle.director.specs.declared.segment.Segment.{Segment}
-use Rattle.director.specs.declared.segment.Seen.{Seen}
+use Rattle.director.specs.Segment.{Read, on_reading, segment_read}
 use Rattle.director.specs.declared.decide.Decision.{Decision}
 use Rattle.director.specs.State.{with_servers, lent, Result, in_words, refusal}
 use Rattle.director.specs.Judge.{sound_of}
 use Rattle.director.specs.Tick.{settled, settled_slots}
-use Rattle.director.specs.Segment.{on_reading, segment_read}
 use Rattle.director.specs.Decide.{decided}
 use Rattle.director.specs.Carry.{sent_on, passed, carried_out}
 use Rattle.director.specs.Packets.{routed, on_clock, on_seen, packet_held, packet_on_sound, packet_of}
@@ -79,7 +79,7 @@ module _ (d : Director) (p p' : List ℕ) (same : SameUpToTotal p p') where
   refused_alike why d' row = record { answer = refl; director = refl; row = refl; packet = same.bytes }
 
   -- past 11, in the settled state
-  module _ (way : Way) (m : Segment) (seen : segment_read way d.service d.servers p ≡ Seen.Segment m) (present : Director)
+  module _ (way : Way) (m : Segment) (seen : segment_read way d.service d.servers p ≡ Ok m) (present : Director)
       (service : present.service ≡ d.service) where
     passed_alike : (servers : List Server) (walk : Walk) (l : List Slot) (i : ServerNo) (change : Change)
         → let d' = with_servers present servers walk in
@@ -102,7 +102,7 @@ module _ (d : Director) (p p' : List ℕ) (same : SameUpToTotal p p') where
     carried_alike l (Decision.Renew old k i walk) = passed_alike _ walk _ i Change.Opened
 
   module _ (row : List ℕ) (now : ℕ) where
-    by_clock_alike : (way : Way) (m : Segment) → segment_read way d.service d.servers p ≡ Seen.Segment m → (e : Bool)
+    by_clock_alike : (way : Way) (m : Segment) → segment_read way d.service d.servers p ≡ Ok m → (e : Bool)
         → Alike (total_length p) (in_words (on_clock d (lent (slots row) p) m now e)) (in_words (on_clock d (lent (slots row) p') m now e))
     unfolding routed
     by_clock_alike way m seen true = refused_alike Refusal.EarlierClock d (words (slots row))
@@ -111,10 +111,10 @@ module _ (d : Director) (p p' : List ℕ) (same : SameUpToTotal p p') where
         let left = settled_slots d (slots row) now in
         carried_alike way m seen present refl left (decided present left m)
 
-    by_seen_alike : (way : Way) (x : Seen) → segment_read way d.service d.servers p ≡ x
+    by_seen_alike : (way : Way) (x : Read) → segment_read way d.service d.servers p ≡ x
         → Alike (total_length p) (in_words (on_seen d (lent (slots row) p) now x)) (in_words (on_seen d (lent (slots row) p') now x))
-    by_seen_alike way (Seen.Refused why) seen = refused_alike why d (words (slots row))
-    by_seen_alike way (Seen.Segment m) seen = by_clock_alike way m seen (ltb now d.clock)
+    by_seen_alike way (Err why) seen = refused_alike why d (words (slots row))
+    by_seen_alike way (Ok m) seen = by_clock_alike way m seen (ltb now d.clock)
 
     unread : (way : Way) → Alike (total_length p) (packet_of way d row p now) (packet_of way d row p' now)
     unfolding packet_of packet_held
@@ -135,7 +135,7 @@ same_server i j x y e = cc
 same_change : (i j : ServerNo) (x y : Change) → Answer.Passed i x ≡ Answer.Passed j y → x ≡ y
 same_change i j x y e = cc
 
-one_segment : (m m' : Segment) → Seen.Segment m ≡ Seen.Segment m' → m ≡ m'
+one_segment : (m m' : Segment) → Ok m ≡ Ok m' → m ≡ m'
 one_segment m m' e = cc
 
 module _ (way : Way) (d : Director) (row p : List ℕ) (now : ℕ) (fits : EndsFit d.service d.servers) (bytes : Bytes p) where
@@ -151,7 +151,7 @@ module _ (way : Way) (d : Director) (row p : List ℕ) (now : ℕ) (fits : EndsF
     unwritten = refl;
   }
 
-  module _ (sound : sound_of d row ≡ true) (m : Segment) (seen : segment_read way d.service d.servers p ≡ Seen.Segment m) where
+  module _ (sound : sound_of d row ≡ true) (m : Segment) (seen : segment_read way d.service d.servers p ≡ Ok m) where
     abbrev n : ℕ
     n = d.service.servers
 
@@ -220,9 +220,9 @@ module _ (way : Way) (d : Director) (row p : List ℕ) (now : ℕ) (fits : EndsF
         let whole = sound_parts present (words left) (settled_sound d row now sound (ltb-false now d.clock e)) in
         rw slots-words at (by_decision (words left) whole (slots-words left) (decided present (slots (words left)) m) (decided_grounded present (words left) whole m))
 
-  by_seen : sound_of d row ≡ true → (x : Seen) → segment_read way d.service d.servers p ≡ x → Goal (in_words (on_seen d (lent (slots row) p) now x))
-  by_seen sound (Seen.Refused why) seen = refused_right why d (words (slots row)) refl
-  by_seen sound (Seen.Segment m) seen = by_clock sound m seen (ltb now d.clock) refl
+  by_seen : sound_of d row ≡ true → (x : Read) → segment_read way d.service d.servers p ≡ x → Goal (in_words (on_seen d (lent (slots row) p) now x))
+  by_seen sound (Err why) seen = refused_right why d (words (slots row)) refl
+  by_seen sound (Ok m) seen = by_clock sound m seen (ltb now d.clock) refl
 
   settles : Goal (packet_of way d row p now)
   unfolding packet_of packet_held

@@ -1,5 +1,6 @@
 -- Demand 3: an accepted setup makes state and book agree, whatever they were; every call keeps them in agreement; and agreement gives the claim.
 -- Assumes nothing.
+use Rattle.std.specs.Prelude.{Ok, Err}
 use mathlib.Core.Bool.{true}
 use mathlib.Core.List.{List, [], ◌∷◌}
 use mathlib.Core.Path.{◌≡◌, refl, sym, ap, subst}
@@ -10,9 +11,8 @@ use Rattle.table.specs.Slots.{slots}
 use Rattle.director.specs.declared.state.Service.{Service}
 use Rattle.director.specs.declared.state.Refusal.{Refusal}
 use Rattle.director.specs.declared.state.Answer.{Answer}
-use Rattle.director.specs.declared.judge.Verdict.{Verdict}
+use Rattle.director.specs.Judge.{Judged, settings_judged, sound_of}
 use Rattle.director.specs.State.{changes_nothing, lent}
-use Rattle.director.specs.Judge.{settings_judged, sound_of}
 use Rattle.director.specs.Setup.{on_verdict, setup_of}
 use Rattle.director.proofs.Sound.{judged}
 use Rattle.director.proofs.Leaving.{leaves_sound}
@@ -67,10 +67,10 @@ unfolding setup_of
 audited_setup s b g given fits accepted =
     record { sound = (setup_leaves s.director g given s.row).sound (ap changes_nothing accepted); agree = by_verdict _ refl accepted }
   where
-    by_verdict : (v : Verdict) → settings_judged g given s.row ≡ v
+    by_verdict : (v : Judged) → settings_judged g given s.row ≡ v
         → let r = on_verdict s.director g given s.row v in r.answer ≡ Answer.Done → Agree r.director (slots r.lent.table) (note_setup b g given r.answer)
-    by_verdict Verdict.Accepted e done = agreed _ _ _ _ (matches_new g given s.row (judged g given s.row e) fits)
-    by_verdict (Verdict.Refused why) e done = absurd (refused-done why done)
+    by_verdict (Ok done) e done = agreed _ _ _ _ (matches_new g given s.row (judged g given s.row e) fits)
+    by_verdict (Err why) e done = absurd (refused-done why done)
 
 pub demand3 : Demand3
 demand3 s b g given cs fits all accepted =

@@ -1,4 +1,5 @@
 -- Each call gives the number of the lowest-placed of its tests that fails, and 0 where none does. Assumes nothing.
+use Rattle.std.specs.Prelude.{Ok, Err}
 use Prim.Native.Nat.{ℕ, ◌<◌}
 use mathlib.Core.Bool.{Bool, true, false, cond, not, ◌&&◌, ◌||◌}
 use mathlib.Core.List.{List, []}
@@ -36,17 +37,15 @@ use Rattle.director.specs.declared.state.Service.{Service}
 use Rattle.director.specs.declared.state.Director.{Director}
 use Rattle.director.specs.declared.state.Refusal.{Refusal}
 use Rattle.director.specs.declared.state.Way.{Way}
-use Rattle.director.specs.declared.judge.Verdict.{Verdict}
+use Rattle.director.specs.Judge.{Judged, sizes_right, service_right, settings_judged, sound_of}
 use Rattle.director.specs.declared.segment.Segment.{Segment}
-use Rattle.director.specs.declared.segment.Seen.{Seen}
+use Rattle.director.specs.Segment.{Read, inbound_segment, on_number, on_way, on_reading, segment_read}
 use Rattle.director.specs.declared.decide.Decision.{Decision}
 use Rattle.director.specs.declared.state.Answer.{Answer}
 use Rattle.director.specs.State.{with_one_less, Lent, lent, Result, refusal_number}
-use Rattle.director.specs.Judge.{sizes_right, service_right, settings_judged, sound_of}
 use Rattle.director.specs.Setup.{on_verdict, setup_of}
 use Rattle.director.specs.Control.{number_judged, on_weight, weight_of, on_count, count_call_of}
 use Rattle.director.specs.Tick.{settled, settled_slots, tick_on_sound, tick_of}
-use Rattle.director.specs.Segment.{inbound_segment, on_number, on_way, on_reading, segment_read}
 use Rattle.director.specs.Decide.{opens, belongs, next_pick, on_weights, on_room, renews, on_renewal, on_rst, on_present, on_client, decided}
 use Rattle.director.specs.Carry.{carried_out}
 use Rattle.director.specs.Packets.{routed, on_clock, on_seen, packet_held, packet_of}
@@ -66,7 +65,7 @@ module _ (d : Director) (row : List ℕ) where
       by_tests (sizes_right g.servers row) (service_right g) (all_keep Rule.Set given g.servers) (all_keep Rule.New given g.servers)
     where
       by_tests : (sizes service set new : Bool)
-          → number_given (on_verdict d g given row (cond sizes (cond service (cond set (cond new Verdict.Accepted (Verdict.Refused Refusal.ServerRepeated)) (Verdict.Refused Refusal.ServerUnset)) (Verdict.Refused Refusal.Service)) (Verdict.Refused Refusal.Size))).answer
+          → number_given (on_verdict d g given row (cond sizes (cond service (cond set (cond new (Ok tt) (Err Refusal.ServerRepeated)) (Err Refusal.ServerUnset)) (Err Refusal.Service)) (Err Refusal.Size))).answer
           ≡ cond (not sizes) 1 (cond (not service) 2 (cond (not set) 3 (cond (not new) 4 0)))
       by_tests false service set new = refl
       by_tests true false set new = refl
@@ -75,13 +74,13 @@ module _ (d : Director) (row : List ℕ) where
       by_tests true true true true = refl
 
   -- weight and count
-  by_number : (k : ℕ) (on : Verdict → Result) → ((why : Refusal) → (on (Verdict.Refused why)).answer ≡ Answer.Refused why) → number_given (on Verdict.Accepted).answer ≡ 0
+  by_number : (k : ℕ) (on : Judged → Result) → ((why : Refusal) → (on (Err why)).answer ≡ Answer.Refused why) → number_given (on (Ok tt)).answer ≡ 0
       → number_given (on (number_judged d row k)).answer ≡ lowest_failing (number_tests d row k)
   unfolding number_judged
   by_number k on refused accepted = by_tests (sound_of d row) (ltb k d.service.servers)
     where
       by_tests : (sound exists : Bool)
-          → number_given (on (cond sound (cond exists Verdict.Accepted (Verdict.Refused Refusal.NoServer)) (Verdict.Refused Refusal.Unsound))).answer
+          → number_given (on (cond sound (cond exists (Ok tt) (Err Refusal.NoServer)) (Err Refusal.Unsound))).answer
           ≡ cond (not sound) 15 (cond (not exists) 5 0)
       by_tests false exists = rw (refused Refusal.Unsound)
       by_tests true false = rw (refused Refusal.NoServer)
@@ -220,13 +219,13 @@ module _ (way : Way) (d : Director) (row p : List ℕ) (now : ℕ) (sound : soun
   left = settled_slots d (slots row) now
 
   -- the number that is given after what the packet says, and what 12 to 14 say of it
-  abbrev number : Seen → ℕ
+  abbrev number : Read → ℕ
   number s = number_given (on_seen d (lent (slots row) p) now s).answer
 
-  abbrev later : Seen → ℕ
+  abbrev later : Read → ℕ
   later s = cond earlier 11 (lowest_failing (seen_tests settled_one left s))
 
-  on_segment : (m : Segment) → number (Seen.Segment m) ≡ later (Seen.Segment m)
+  on_segment : (m : Segment) → number (Ok m) ≡ later (Ok m)
   on_segment m = by_clock earlier refl
     where
       by_clock : (e : Bool) → earlier ≡ e
@@ -242,7 +241,7 @@ module _ (way : Way) (d : Director) (row p : List ℕ) (now : ℕ) (sound : soun
   on_endpoint Way.Inbound flags = by_endpoint (eqb (address_at p 16) g.address && eqb (word_at (payload p) 2) g.port)
     where
       by_endpoint : (to : Bool)
-          → let s = cond to (inbound_segment (packet_with (header_of p) (ports_of (payload p) flags))) (Seen.Refused Refusal.OtherEndpoint) in
+          → let s = cond to (inbound_segment (packet_with (header_of p) (ports_of (payload p) flags))) (Err Refusal.OtherEndpoint) in
           number s ≡ cond (not to) 10 (later s)
       by_endpoint true = on_segment _
       by_endpoint false = refl
@@ -252,10 +251,10 @@ module _ (way : Way) (d : Director) (row p : List ℕ) (now : ℕ) (sound : soun
       by_number Found.Nobody = refl
       by_number (Found.At i) = on_segment _
 
-  abbrev seen_of : Transport → Seen
+  abbrev seen_of : Transport → Read
   seen_of t = on_reading way g d.servers (with_transport (header_of p) t)
 
-  abbrev past9 : Seen → ℕ
+  abbrev past9 : Read → ℕ
   past9 s = cond (is_elsewhere way g d.servers p) 10 (later s)
 
   -- 9

@@ -1,5 +1,6 @@
 -- What a packet says does not change with the servers' weights and counts; and an accepted packet, sent on, goes between its client and the
 -- server that the answer names. Assumes nothing.
+use Rattle.std.specs.Prelude.{Ok}
 use Prim.Native.Nat.{ℕ, ◌<◌}
 use mathlib.Core.Bool.{true}
 use mathlib.Core.List.{List}
@@ -26,7 +27,6 @@ use Rattle.director.specs.declared.state.Director.{Director}
 use Rattle.director.specs.declared.state.Way.{Way}
 use Rattle.director.specs.declared.segment.Sender.{Sender}
 use Rattle.director.specs.declared.segment.Segment.{Segment}
-use Rattle.director.specs.declared.segment.Seen.{Seen}
 use Rattle.director.specs.Segment.{on_number, on_reading, segment_read}
 use Rattle.director.specs.Decide.{belongs}
 use Rattle.director.specs.Carry.{forwarded}
@@ -99,5 +99,5 @@ module _ (d : Director) (given : List Server) (clock : ℕ) (es : List Entry) (f
           };
         }
 
-  pub goes : (way : Way) (m : Segment) → segment_read way d.service given p ≡ Seen.Segment m → Goal way m
+  pub goes : (way : Way) (m : Segment) → segment_read way d.service given p ≡ Ok m → Goal way m
   goes = read_by d.service given p Goal inbound outbound

@@ -1,4 +1,5 @@
 -- An accepted packet leaves as demand 2 says: read again, its checksums, and every byte that is not set. Assumes nothing.
+use Rattle.std.specs.Prelude.{Ok}
 use Prim.Native.Nat.{ℕ, ◌<◌}
 use mathlib.Core.Bool.{true, not, ◌&&◌}
 use mathlib.Core.List.{List}
@@ -28,7 +29,6 @@ use Rattle.director.specs.declared.state.Director.{Director}
 use Rattle.director.specs.declared.state.Way.{Way}
 use Rattle.director.specs.declared.segment.Sender.{Sender}
 use Rattle.director.specs.declared.segment.Segment.{Segment}
-use Rattle.director.specs.declared.segment.Seen.{Seen}
 use Rattle.director.specs.Judge.{is_protocol}
 use Rattle.director.specs.Segment.{segment_read}
 use Rattle.director.specs.Carry.{sent_on}
@@ -90,5 +90,5 @@ module _ (d : Director) (row p : List ℕ) (a : Accepted d.service d.servers row
         → Goal Way.Outbound (record { address = r.destination; port = r.transport.destination; sender = Sender.Server i; flags = r.transport.flags })
     outbound i number = by_side Way.Outbound _ refl (fits.0, fits.1) (virtual_set g d.servers row a)
 
-  pub rewritten : (way : Way) (m : Segment) → segment_read way g d.servers p ≡ Seen.Segment m → Goal way m
+  pub rewritten : (way : Way) (m : Segment) → segment_read way g d.servers p ≡ Ok m → Goal way m
   rewritten = read_by g d.servers p Goal inbound outbound

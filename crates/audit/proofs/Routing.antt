@@ -1,5 +1,6 @@
 -- A packet that got past 11: whatever is decided of it, by the decision's reasons, the state and the book agree afterwards, and what the claim
 -- says of it holds. Assumes nothing.
+use Rattle.std.specs.Prelude.{Ok}
 use Prim.Native.Nat.{ℕ, ◌<◌, ◌≤◌}
 use mathlib.Core.Bool.{Bool, true, false, not, ◌&&◌, and-false, true≢false}
 use mathlib.Core.List.{List, [], ◌∷◌}
@@ -27,7 +28,6 @@ use Rattle.director.specs.declared.state.Director.{Director}
 use Rattle.director.specs.declared.state.Change.{Change}
 use Rattle.director.specs.declared.state.Way.{Way}
 use Rattle.director.specs.declared.segment.Segment.{Segment}
-use Rattle.director.specs.declared.segment.Seen.{Seen}
 use Rattle.director.specs.declared.decide.Decision.{Decision}
 use Rattle.director.specs.State.{with_servers, lent, Held}
 use Rattle.director.specs.Judge.{sound_of}
@@ -73,7 +73,7 @@ pub record Routed (way : Way) (b : Book) (p : List ℕ) (m : Segment) (h : Held)
 -- 3. A packet of the service, in a sound state that agrees with its book; its clock is stored and the idle connections are gone
 
 module _ (d : Director) (row : List ℕ) (given : List Server) (es : List Entry) (sound : sound_of d row ≡ true) (t : Matches d (slots row) given es)
-    (way : Way) (p : List ℕ) (m : Segment) (seen : segment_read way d.service given p ≡ Seen.Segment m) where
+    (way : Way) (p : List ℕ) (m : Segment) (seen : segment_read way d.service given p ≡ Ok m) where
   abbrev l : List Slot
   l = slots row
 

@@ -1,5 +1,6 @@
 -- Every call of a sound state that agrees with its book: the state and the book agree afterwards, the answer is not 15, and what is claimed of
 -- the call holds. Assumes nothing.
+use Rattle.std.specs.Prelude.{Ok, Err}
 use Prim.Native.Nat.{ℕ, ◌<◌}
 use mathlib.Core.Bool.{Bool, true, false, true≢false}
 use mathlib.Core.List.{List, []}
@@ -24,16 +25,14 @@ use Rattle.director.specs.declared.state.Service.{Service}
 use Rattle.director.specs.declared.state.Director.{Director}
 use Rattle.director.specs.declared.state.Refusal.{Refusal}
 use Rattle.director.specs.declared.state.Answer.{Answer}
-use Rattle.director.specs.declared.judge.Verdict.{Verdict}
+use Rattle.director.specs.Judge.{Judged, settings_judged, sound_of}
 use Rattle.director.specs.declared.state.Way.{Way}
 use Rattle.director.specs.declared.segment.Segment.{Segment}
-use Rattle.director.specs.declared.segment.Seen.{Seen}
+use Rattle.director.specs.Segment.{Read, segment_read}
 use Rattle.director.specs.State.{lent, Result, Held, in_words}
-use Rattle.director.specs.Judge.{settings_judged, sound_of}
 use Rattle.director.specs.Setup.{on_verdict, setup_of}
 use Rattle.director.specs.Control.{number_judged, on_weight, weight_of, on_count, count_call_of}
 use Rattle.director.specs.Tick.{idle_now, settled, settled_slots, tick_on_clock, tick_of}
-use Rattle.director.specs.Segment.{segment_read}
 use Rattle.director.specs.Packets.{on_clock, on_seen, packet_held, packet_of}
 use Rattle.director.proofs.Sound.{judged, sound_parts}
 use Rattle.director.proofs.Refusals.{EarlyVerdict, EarlySeen, settings_early, read_early}
@@ -89,16 +88,16 @@ module _ (s : State) (given : List Server) (es : List Entry) (sound : sound_of s
       let exists : k < length d.servers = omega (arith, places d.servers d.service.servers parts.settings.set) in
       count-naming d.service.protocol d.service.servers d.clock l d.servers inside k exists ∙ t.same (names k)
 
-  on_setup : (g : Service) (new : List Server) (v : Verdict) → settings_judged g new row ≡ v → EarlyVerdict v → Right (set_up g new) (on_verdict d g new row v)
-  on_setup g new (Verdict.Refused why) e early = record { agree = λ _. unchanged; not15 = early.not15; claim = λ _. tt }
-  on_setup g new Verdict.Accepted e early =
+  on_setup : (g : Service) (new : List Server) (v : Judged) → settings_judged g new row ≡ v → EarlyVerdict v → Right (set_up g new) (on_verdict d g new row v)
+  on_setup g new (Err why) e early = record { agree = λ _. unchanged; not15 = early.not15; claim = λ _. tt }
+  on_setup g new (Ok done) e early =
       record { agree = λ fits. agreed _ _ _ _ (matches_new g new row (judged g new row e) fits); not15 = refl; claim = λ _. tt }
 
   on_weight_lem : (k w : ℕ) → Right (set_weight k w) (weight_of d row k w)
   unfolding weight_of number_judged
   on_weight_lem k w =
       rw sound
-      (by_test (λ (v : Verdict). Right (set_weight k w) (on_weight d row k w v)) (ltb k d.service.servers) _ _
+      (by_test (λ (v : Judged). Right (set_weight k w) (on_weight d row k w v)) (ltb k d.service.servers) _ _
       (λ _. record { agree = λ _. agreed _ _ _ _ (matches_weighed d l given es t k w); not15 = refl; claim = λ _. tt })
       (λ _. record { agree = λ _. unchanged; not15 = refl; claim = λ _. tt }))
 
@@ -106,7 +105,7 @@ module _ (s : State) (given : List Server) (es : List Entry) (sound : sound_of s
   unfolding count_call_of number_judged
   on_count_lem k =
       rw sound
-      (by_test (λ (v : Verdict). Right (count k) (on_count d row k v)) (ltb k d.service.servers) _ _
+      (by_test (λ (v : Judged). Right (count k) (on_count d row k v)) (ltb k d.service.servers) _ _
       (λ e. record { agree = λ _. unchanged; not15 = refl; claim = λ _. counts k (ltb-true k d.service.servers e) })
       (λ _. record { agree = λ _. unchanged; not15 = refl; claim = λ _. tt }))
 
@@ -138,13 +137,13 @@ module _ (s : State) (given : List Server) (es : List Entry) (sound : sound_of s
           }
 
   -- what is shown of a packet call, by what the packet says
-  record PacketRight (way : Way) (p : List ℕ) (now : ℕ) (y : Seen) (h : Held) : Type 0 where
+  record PacketRight (way : Way) (p : List ℕ) (now : ℕ) (y : Read) (h : Held) : Type 0 where
     agree : Agree h.director h.lent.table (note_seen (timed b now h.answer) h.answer y)
     not15 : refused 15 h.answer ≡ false
     claim : Bytes p → PacketClaim way b p now (in_words h) y
 
-  on_clock_lem : (way : Way) (p : List ℕ) (now : ℕ) (m : Segment) → segment_read way d.service given p ≡ Seen.Segment m
-      → (earlier : Bool) → ltb now d.clock ≡ earlier → PacketRight way p now (Seen.Segment m) (on_clock d (lent l p) m now earlier)
+  on_clock_lem : (way : Way) (p : List ℕ) (now : ℕ) (m : Segment) → segment_read way d.service given p ≡ Ok m
+      → (earlier : Bool) → ltb now d.clock ≡ earlier → PacketRight way p now (Ok m) (on_clock d (lent l p) m now earlier)
   on_clock_lem way p now m seen true e =
       record { agree = unchanged; not15 = refl; claim = λ _. record { earlier = sym e; stray = λ n. absurd (true≢false (sym e ∙ n)); passed = tt } }
   on_clock_lem way p now m seen false e =
@@ -159,10 +158,10 @@ module _ (s : State) (given : List Server) (es : List Entry) (sound : sound_of s
         claim = λ bytes. record { earlier = r.not11 ∙ sym e; stray = λ _. r.stray; passed = r.passed bytes };
       }
 
-  on_seen_lem : (way : Way) (p : List ℕ) (now : ℕ) (y : Seen) → segment_read way d.service given p ≡ y → EarlySeen y → PacketRight way p now y (on_seen d (lent l p) now y)
-  on_seen_lem way p now (Seen.Refused why) seen early =
+  on_seen_lem : (way : Way) (p : List ℕ) (now : ℕ) (y : Read) → segment_read way d.service given p ≡ y → EarlySeen y → PacketRight way p now y (on_seen d (lent l p) now y)
+  on_seen_lem way p now (Err why) seen early =
       record { agree = rw (numbers_agree why, early.back) unchanged; not15 = early.not15; claim = λ _. (refl, refl) }
-  on_seen_lem way p now (Seen.Segment m) seen early = on_clock_lem way p now m seen _ refl
+  on_seen_lem way p now (Ok m) seen early = on_clock_lem way p now m seen _ refl
 
   on_packet : (way : Way) (p : List ℕ) (now : ℕ) → Right (packet way p now) (packet_of way d row p now)
   unfolding packet_of packet_held

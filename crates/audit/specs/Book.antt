@@ -1,5 +1,5 @@
 -- The book (SCOPE section 9), worked out from the record of calls and answers alone. Assumes nothing: these are definitions.
-use Rattle.std.specs.Prelude.{ℕ, ◌-◌, Bool, true, false, cond, not, ◌&&◌, ◌||◌, List, [], ◌∷◌, map, eqb, leb}
+use Rattle.std.specs.Prelude.{ℕ, ◌-◌, Bool, true, false, cond, not, ◌&&◌, ◌||◌, List, [], ◌∷◌, map, eqb, leb, Ok, Err}
 use Rattle.lists.specs.Tests.{keep}
 use Rattle.servers.specs.declared.Server.{Server}
 use Rattle.director.specs.declared.state.Service.{Service}
@@ -7,9 +7,8 @@ use Rattle.director.specs.declared.state.Change.{Change}
 use Rattle.director.specs.declared.state.Answer.{Answer}
 use Rattle.director.specs.declared.segment.Sender.{Sender}
 use Rattle.director.specs.declared.segment.Segment.{Segment}
-use Rattle.director.specs.declared.segment.Seen.{Seen}
+use Rattle.director.specs.Segment.{Read, segment_read}
 use Rattle.director.specs.State.{refusal_number}
-use Rattle.director.specs.Segment.{segment_read}
 use Rattle.director.specs.Decide.{opens}
 use Rattle.audit.specs.Calls.{Call, set_up, set_weight, count, tick, packet, Line}
 
@@ -122,9 +121,9 @@ note_answer b m (Answer.Passed i change) = entered b m i.0 change
 note_answer b m (Answer.Refused why) = b
 
 -- what the packet says, read with the book's settings
-abbrev pub note_seen : Book → Answer → Seen → Book
-note_seen b a (Seen.Refused why) = b
-note_seen b a (Seen.Segment m) = note_answer b m a
+abbrev pub note_seen : Book → Answer → Read → Book
+note_seen b a (Err why) = b
+note_seen b a (Ok m) = note_answer b m a
 
 -- "Accepted setup: its settings, clock 0, no entries." (SCOPE 9.4)
 abbrev pub note_setup : Book → Service → List Server → Answer → Book

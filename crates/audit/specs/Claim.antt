@@ -1,5 +1,5 @@
 -- Demand 3 (SCOPE 13.3): one claim about every list of calls that begins with an accepted setup. Assumes nothing: these are definitions.
-use Rattle.std.specs.Prelude.{ℕ, ◌+◌, ◌<◌, ◌≤◌, Bool, true, false, not, ◌&&◌, List, [], ◌∷◌, ◌≡◌, eqb, ltb}
+use Rattle.std.specs.Prelude.{ℕ, ◌+◌, ◌<◌, ◌≤◌, Bool, true, false, not, ◌&&◌, List, [], ◌∷◌, ◌≡◌, eqb, ltb, Ok, Err}
 use Rattle.lists.specs.Tests.{count_of, keep}
 use Rattle.servers.specs.Servers.{server_at, count_at, total_count}
 use Rattle.packet.specs.declared.read.Packet.{Packet}
@@ -11,9 +11,8 @@ use Rattle.director.specs.declared.state.Change.{Change}
 use Rattle.director.specs.declared.state.Answer.{Answer}
 use Rattle.director.specs.declared.state.Way.{Way}
 use Rattle.director.specs.declared.segment.Segment.{Segment}
-use Rattle.director.specs.declared.segment.Seen.{Seen}
+use Rattle.director.specs.Segment.{Read, segment_read}
 use Rattle.director.specs.State.{Result, refusal_number}
-use Rattle.director.specs.Segment.{segment_read}
 use Rattle.director.specs.Decide.{opens, belongs}
 use Rattle.audit.specs.Calls.{Call, set_up, set_weight, count, tick, packet, Fits, AllFit, State, called, after, record_of}
 use Rattle.audit.specs.Book.{Entry, Book, of_client, names, is_struck, struck, book_of}
@@ -101,9 +100,9 @@ pub record SegmentClaim (way : Way) (b : Book) (p : List ℕ) (now : ℕ) (m : S
   pub passed : Passed way (struck b now) m p r.answer r.lent.packet
 
 -- a packet that one of 6 to 10 and 20 refuses gets that refusal, and leaves as it came
-abbrev pub PacketClaim : Way → Book → List ℕ → ℕ → Result → Seen → Type 0
-PacketClaim way b p now r (Seen.Refused why) = (r.answer ≡ Answer.Refused why) × (r.lent.packet ≡ p)
-PacketClaim way b p now r (Seen.Segment m) = SegmentClaim way b p now m r
+abbrev pub PacketClaim : Way → Book → List ℕ → ℕ → Result → Read → Type 0
+PacketClaim way b p now r (Err why) = (r.answer ≡ Answer.Refused why) × (r.lent.packet ≡ p)
+PacketClaim way b p now r (Ok m) = SegmentClaim way b p now m r
 
 -- of a tick: the number of entries that it struck, "which is the fall of the sum of all counts in that call" (SCOPE 8.14)
 pub record TickClaim (s : State) (b : Book) (now : ℕ) (r : Result) : Type 0 where

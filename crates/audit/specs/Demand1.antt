@@ -1,6 +1,6 @@
 -- Demand 1 (SCOPE 13.1): which refusal a call gives, exactly, and what a refused call leaves; of every state, row and packet, sound or not.
 -- Assumes nothing: these are definitions.
-use Rattle.std.specs.Prelude.{ℕ, ◌≤◌, Bool, true, false, cond, not, ◌&&◌, ◌||◌, List, [], ◌∷◌, ◌≡◌, eqb, ltb, get_or}
+use Rattle.std.specs.Prelude.{ℕ, ◌≤◌, Bool, true, false, cond, not, ◌&&◌, ◌||◌, List, [], ◌∷◌, ◌≡◌, eqb, ltb, get_or, Ok, Err}
 use Rattle.checksum.specs.Ones.{word_at}
 use Rattle.packet.specs.Bytes.{address_at, payload}
 use Rattle.packet.specs.Reading.{broken, header_verifies, fragment, tcp_malformed, udp_malformed}
@@ -17,11 +17,10 @@ use Rattle.director.specs.declared.state.Director.{Director}
 use Rattle.director.specs.declared.state.Answer.{Answer}
 use Rattle.director.specs.declared.state.Way.{Way}
 use Rattle.director.specs.declared.segment.Segment.{Segment}
-use Rattle.director.specs.declared.segment.Seen.{Seen}
+use Rattle.director.specs.Segment.{Read, segment_read}
 use Rattle.director.specs.State.{lent, Result, refusal_number}
 use Rattle.director.specs.Judge.{sizes_right, service_right, sound_of}
 use Rattle.director.specs.Tick.{settled, settled_slots}
-use Rattle.director.specs.Segment.{segment_read}
 use Rattle.director.specs.Decide.{opens, renews}
 use Rattle.director.specs.Laws.{is_its}
 use Rattle.audit.specs.Calls.{Call, set_up, set_weight, count, tick, packet, Fits, packet_in, State, called}
@@ -88,9 +87,9 @@ route_tests d l m =
     ∷ []
 
 -- a packet that one of 6 to 10 and 20 refuses says nothing of a connection
-abbrev pub seen_tests : Director → List Slot → Seen → List Test
-seen_tests d l (Seen.Refused why) = []
-seen_tests d l (Seen.Segment m) = route_tests d l m
+abbrev pub seen_tests : Director → List Slot → Read → List Test
+seen_tests d l (Err why) = []
+seen_tests d l (Ok m) = route_tests d l m
 
 -- "Packets 15, 6, 20, 7 to 11, then 12 to 14." (SCOPE 5.1)
 abbrev pub packet_tests : Way → Director → List ℕ → List ℕ → ℕ → List Test

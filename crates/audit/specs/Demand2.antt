@@ -1,5 +1,5 @@
 -- Demand 2 (SCOPE 13.2): who is picked, and what rewriting makes of a packet; of every packet call. Assumes nothing: these are definitions.
-use Rattle.std.specs.Prelude.{ℕ, Bool, false, cond, List, ◌≡◌, get_or, take, drop}
+use Rattle.std.specs.Prelude.{ℕ, Bool, false, cond, List, ◌≡◌, get_or, take, drop, Ok}
 use Rattle.checksum.specs.Ones.{Bytes}
 use Rattle.packet.specs.declared.read.Packet.{Packet}
 use Rattle.packet.specs.declared.read.Reading.{Reading}
@@ -20,7 +20,6 @@ use Rattle.director.specs.declared.state.Change.{Change}
 use Rattle.director.specs.declared.state.Answer.{Answer}
 use Rattle.director.specs.declared.state.Way.{Way}
 use Rattle.director.specs.declared.segment.Segment.{Segment}
-use Rattle.director.specs.declared.segment.Seen.{Seen}
 use Rattle.director.specs.State.{Result}
 use Rattle.director.specs.Tick.{settled, settled_slots}
 use Rattle.director.specs.Segment.{segment_read}
@@ -88,7 +87,7 @@ seen_by_pick d l m = at_pick d l m (first_from (of_client m.address m.port) 0 l)
 pub record ResultClaim (way : Way) (d : Director) (row p : List ℕ) (now : ℕ) (r : Result) : Type 0 where
   pub rewritten : (i : ServerNo) (change : Change) → r.answer ≡ Answer.Passed i change → Rewritten way d i.0 p r.lent.packet
   -- an opening goes to the pick, from the counts that are left once the idle connections and the one that the packet renews are removed
-  pub picked : (i : ServerNo) (m : Segment) → r.answer ≡ Answer.Passed i Change.Opened → segment_read way d.service d.servers p ≡ Seen.Segment m
+  pub picked : (i : ServerNo) (m : Segment) → r.answer ≡ Answer.Passed i Change.Opened → segment_read way d.service d.servers p ≡ Ok m
       → let servers = seen_by_pick (settled d (slots row) now) (settled_slots d (slots row) now) m in
       Published d.service.scheduler servers d.service.servers d.walk i r.director.walk
   -- "the walk moves in an opening only" (SCOPE 10.2)

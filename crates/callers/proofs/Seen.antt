@@ -15,7 +15,7 @@ use Rattle.director.specs.declared.state.Answer.{Answer}
 use Rattle.director.specs.declared.state.Way.{Way}
 use Rattle.director.specs.declared.judge.Verdict.{Verdict}
 use Rattle.director.specs.declared.segment.Segment.{Segment}
-use Rattle.director.specs.declared.segment.Seen.{Seen}
+use Rattle.director.specs.Segment.{Read}
 use Rattle.director.specs.declared.decide.Decision.{Decision}
 use Rattle.director.specs.State.{Lent, lent}
 use Rattle.director.specs.Judge.{settings_judged, sound_of}
@@ -76,9 +76,9 @@ module _ (way : Way) (p : List ℕ) (now : ℕ) where
   clock_tells d x m true = tells_refused (packet way p now) Refusal.EarlierClock
   clock_tells d x m false = decision_tells (settled d x.table now) (settled_lent d x now) m (decided (settled d x.table now) (settled_lent d x now).table m)
 
-  seen_tells : (d : Director) (x : Lent (List Slot)) (s : Seen) → Tells (packet way p now) (on_seen d x now s).answer
-  seen_tells d x (Seen.Refused why) = tells_refused (packet way p now) why
-  seen_tells d x (Seen.Segment m) = clock_tells d x m (ltb now d.clock)
+  seen_tells : (d : Director) (x : Lent (List Slot)) (s : Read) → Tells (packet way p now) (on_seen d x now s).answer
+  seen_tells d x (Err why) = tells_refused (packet way p now) why
+  seen_tells d x (Ok m) = clock_tells d x m (ltb now d.clock)
 
   packet_tells : (d : Director) (row : List ℕ) (sound : Bool) → Tells (packet way p now) (packet_on_sound way d (lent row p) now sound).answer
   unfolding packet_held

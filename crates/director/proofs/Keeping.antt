@@ -1,4 +1,5 @@
 -- What setup, weight, count and tick calls leave, of any state. Assumes nothing.
+use Rattle.std.specs.Prelude.{Ok, Err}
 use Prim.Native.Nat.{ℕ, ◌<◌}
 use mathlib.Core.Bool.{Bool, true, false}
 use mathlib.Core.List.{List, []}
@@ -21,9 +22,8 @@ use Rattle.table.proofs.Soundness.{sound_counted, all_sound, count-naming}
 use Rattle.director.specs.declared.state.Service.{Service}
 use Rattle.director.specs.declared.state.Director.{Director}
 use Rattle.director.specs.declared.state.Refusal.{Refusal}
-use Rattle.director.specs.declared.judge.Verdict.{Verdict}
+use Rattle.director.specs.Judge.{Judged, settings_judged, sound_of}
 use Rattle.director.specs.State.{lent, Result, in_words, refusal}
-use Rattle.director.specs.Judge.{settings_judged, sound_of}
 use Rattle.director.specs.Setup.{new_director, on_verdict, setup_of}
 use Rattle.director.specs.Control.{number_judged, weighed, on_weight, weight_of, on_count, count_call_of}
 use Rattle.director.specs.Tick.{tick_on_clock, tick_of}
@@ -49,10 +49,10 @@ pub setup_leaves : (d : Director) (g : Service) (given : List Server) (row : Lis
 unfolding setup_of
 setup_leaves d g given row = on_verdict_lem (settings_judged g given row) refl (settings_early g given row)
   where
-    on_verdict_lem : (v : Verdict) → settings_judged g given row ≡ v → EarlyVerdict v → Leaves d (lent row []) (on_verdict d g given row v)
-    on_verdict_lem Verdict.Accepted e early =
-        leaves_changed d (lent row []) (on_verdict d g given row Verdict.Accepted) refl (new_sound g given row (judged g given row e))
-    on_verdict_lem (Verdict.Refused why) e early = leaves_all d (lent row []) why early.back
+    on_verdict_lem : (v : Judged) → settings_judged g given row ≡ v → EarlyVerdict v → Leaves d (lent row []) (on_verdict d g given row v)
+    on_verdict_lem (Ok done) e early =
+        leaves_changed d (lent row []) (on_verdict d g given row (Ok tt)) refl (new_sound g given row (judged g given row e))
+    on_verdict_lem (Err why) e early = leaves_all d (lent row []) why early.back
 
 -- 2. Weight, count and tick of a sound state
 
@@ -81,22 +81,22 @@ module _ (d : Director) (row : List ℕ) (sound : sound_of d row ≡ true) where
       (λ j. field_set (λ (v : Server). v.count) d.servers k j _ refl) s.table)
 
   -- where the number is a server's, the call is accepted
-  by_number : (k : ℕ) (on : Verdict → Result) → on (Verdict.Refused Refusal.NoServer) ≡ refusal Refusal.NoServer d (lent row [])
-      → (k < d.service.servers → Leaves d (lent row []) (on Verdict.Accepted)) → Leaves d (lent row []) (on (number_judged d row k))
+  by_number : (k : ℕ) (on : Judged → Result) → on (Err Refusal.NoServer) ≡ refusal Refusal.NoServer d (lent row [])
+      → (k < d.service.servers → Leaves d (lent row []) (on (Ok tt))) → Leaves d (lent row []) (on (number_judged d row k))
   unfolding number_judged
   by_number k on none accepted =
       rw sound
-      (by_test (λ (v : Verdict). Leaves d (lent row []) (on v)) (ltb k d.service.servers) _ _
+      (by_test (λ (v : Judged). Leaves d (lent row []) (on v)) (ltb k d.service.servers) _ _
       (λ e. accepted (ltb-true k d.service.servers e))
       (λ e. rw none (leaves_all d (lent row []) Refusal.NoServer refl)))
 
   weight_sound : (k w : ℕ) → Leaves d (lent row []) (weight_of d row k w)
   unfolding weight_of
-  weight_sound k w = by_number k (on_weight d row k w) refl (λ h. leaves_changed d (lent row []) (on_weight d row k w Verdict.Accepted) refl (weighed_sound k w h))
+  weight_sound k w = by_number k (on_weight d row k w) refl (λ h. leaves_changed d (lent row []) (on_weight d row k w (Ok tt)) refl (weighed_sound k w h))
 
   count_sound : (k : ℕ) → Leaves d (lent row []) (count_call_of d row k)
   unfolding count_call_of
-  count_sound k = by_number k (on_count d row k) refl (λ h. leaves_changed d (lent row []) (on_count d row k Verdict.Accepted) refl sound)
+  count_sound k = by_number k (on_count d row k) refl (λ h. leaves_changed d (lent row []) (on_count d row k (Ok tt)) refl sound)
 
   tick_sound_lem : (now : ℕ) → Leaves d (lent row []) (tick_of d row now)
   unfolding tick_of

@@ -1,4 +1,5 @@
 -- What a packet call leaves, of any state. Assumes nothing.
+use Rattle.std.specs.Prelude.{Ok, Err}
 use Prim.Native.Nat.{ℕ}
 use mathlib.Core.Bool.{Bool, true, false}
 use mathlib.Core.List.{List}
@@ -15,11 +16,10 @@ use Rattle.director.specs.declared.state.Refusal.{Refusal}
 use Rattle.director.specs.declared.state.Way.{Way}
 use Rattle.director.specs.declared.decide.Decision.{Decision}
 use Rattle.director.specs.declared.segment.Segment.{Segment}
-use Rattle.director.specs.declared.segment.Seen.{Seen}
+use Rattle.director.specs.Segment.{Read, segment_read}
 use Rattle.director.specs.State.{keeps_clock, changes_nothing, Lent, lent, Held, in_slots, in_words, refusal}
 use Rattle.director.specs.Judge.{sound_of}
 use Rattle.director.specs.Tick.{settled, settled_slots}
-use Rattle.director.specs.Segment.{segment_read}
 use Rattle.director.specs.Decide.{decided}
 use Rattle.director.specs.Carry.{carried_out}
 use Rattle.director.specs.Packets.{routed, on_clock, on_seen, packet_held, packet_of}
@@ -79,9 +79,9 @@ module _ (d : Director) (row p : List ℕ) (now : ℕ) (bytes : Bytes p) where
         let (late, after) = rw (slots-words l) at (routed-leaves d' (words l) p m bytes from (settled_sound d row now sound (ltb-false now d.clock e))) in
         leaves_changed d x (in_words (routed d' (lent l p) m)) late after
 
-    by_seen : (way : Way) (s : Seen) → segment_read way d.service d.servers p ≡ s → EarlySeen s → Goal (on_seen d (in_slots x) now s)
-    by_seen way (Seen.Refused why) e early = unchanged why early.back
-    by_seen way (Seen.Segment m) e early = by_clock m (read_from d p m way e) (ltb now d.clock) refl
+    by_seen : (way : Way) (s : Read) → segment_read way d.service d.servers p ≡ s → EarlySeen s → Goal (on_seen d (in_slots x) now s)
+    by_seen way (Err why) e early = unchanged why early.back
+    by_seen way (Ok m) e early = by_clock m (read_from d p m way e) (ltb now d.clock) refl
 
   pub packet_leaves : (way : Way) → Leaves d (lent row p) (packet_of way d row p now)
   unfolding packet_of packet_held

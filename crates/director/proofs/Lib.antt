@@ -8,7 +8,6 @@ pub mod Refusals
 pub mod Ending
 pub mod Decisions
 pub mod Feasible
-pub mod Shifting
 pub mod Carried
 pub mod KeepingPackets
 pub mod Idle

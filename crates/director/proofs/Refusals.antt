@@ -1,4 +1,5 @@
 -- Which refusals arise before the clock is accepted: they change nothing, and are not 15. Assumes nothing.
+use Rattle.std.specs.Prelude.{Ok, Err}
 use Prim.Native.Nat.{ℕ}
 use mathlib.Core.Bool.{false, ◌&&◌}
 use mathlib.Core.List.{List}
@@ -16,24 +17,22 @@ use Rattle.servers.specs.Rules.{all_keep, number_of}
 use Rattle.director.specs.declared.state.Service.{Service}
 use Rattle.director.specs.declared.state.Refusal.{Refusal}
 use Rattle.director.specs.declared.state.Way.{Way}
-use Rattle.director.specs.declared.judge.Verdict.{Verdict}
-use Rattle.director.specs.declared.segment.Seen.{Seen}
+use Rattle.director.specs.Judge.{Judged, service_right, sizes_right, settings_judged}
+use Rattle.director.specs.Segment.{Read, inbound_segment, on_number, on_reading, segment_read}
 use Rattle.director.specs.State.{refusal_number, keeps_clock}
-use Rattle.director.specs.Judge.{service_right, sizes_right, settings_judged}
-use Rattle.director.specs.Segment.{inbound_segment, on_number, on_reading, segment_read}
 
 -- a refusal that changes nothing and is not 15
 pub record Early (why : Refusal) : Type 0 where
   pub back : keeps_clock why ≡ false
   pub not15 : eqb (refusal_number why) 15 ≡ false
 
-abbrev pub EarlyVerdict : Verdict → Type 0
-EarlyVerdict Verdict.Accepted = Unit {0}
-EarlyVerdict (Verdict.Refused why) = Early why
+abbrev pub EarlyVerdict : Judged → Type 0
+EarlyVerdict (Ok done) = Unit {0}
+EarlyVerdict (Err why) = Early why
 
-abbrev pub EarlySeen : Seen → Type 0
-EarlySeen (Seen.Refused why) = Early why
-EarlySeen (Seen.Segment m) = Unit {0}
+abbrev pub EarlySeen : Read → Type 0
+EarlySeen (Err why) = Early why
+EarlySeen (Ok m) = Unit {0}
 
 -- 1 to 4
 pub settings_early : (g : Service) (given : List Server) (row : List ℕ) → EarlyVerdict (settings_judged g given row)
@@ -67,6 +66,6 @@ read_early way g servers p = by_reading way (read_packet g.protocol p)
     by_reading : (way : Way) (r : Reading) → EarlySeen (on_reading way g servers r)
     by_reading way (Reading.Refused fault) = fault_early fault
     by_reading Way.Inbound (Reading.Taken r) =
-        by_test EarlySeen (eqb r.destination g.address && eqb r.transport.destination g.port) (inbound_segment r) (Seen.Refused Refusal.OtherEndpoint)
+        by_test EarlySeen (eqb r.destination g.address && eqb r.transport.destination g.port) (inbound_segment r) (Err Refusal.OtherEndpoint)
         (λ _. tt) (λ _. record { back = refl; not15 = refl })
     by_reading Way.Outbound (Reading.Taken r) = by_number r (number_of servers r.source r.transport.source g.servers)

@@ -1,4 +1,5 @@
 -- What is known of a packet that the director takes: it can be redirected, its client's port fits, and in UDP it has no flags. Assumes nothing.
+use Rattle.std.specs.Prelude.{Ok, Err}
 use Prim.Native.Nat.{ℕ, ◌<◌}
 use mathlib.Core.Bool.{Bool, true, false, cond, ◌&&◌}
 use mathlib.Core.List.{List}
@@ -31,8 +32,7 @@ use Rattle.director.specs.declared.state.Refusal.{Refusal}
 use Rattle.director.specs.declared.state.Way.{Way}
 use Rattle.director.specs.declared.segment.Sender.{Sender}
 use Rattle.director.specs.declared.segment.Segment.{Segment}
-use Rattle.director.specs.declared.segment.Seen.{Seen}
-use Rattle.director.specs.Segment.{inbound_segment, on_number, on_reading, segment_read}
+use Rattle.director.specs.Segment.{Read, inbound_segment, on_number, on_reading, segment_read}
 
 -- the packet that a segment was read from
 pub record ReadFrom (protocol : ℕ) (p : List ℕ) (m : Segment) : Type 0 where
@@ -41,10 +41,10 @@ pub record ReadFrom (protocol : ℕ) (p : List ℕ) (m : Segment) : Type 0 where
   pub flags : m.flags ≡ packet.transport.flags
   pub port : (m.port ≡ packet.transport.source) ⊎ (m.port ≡ packet.transport.destination)
 
-refused : (why : Refusal) (m : Segment) → Seen.Refused why ≡ Seen.Segment m → ⊥
+refused : (why : Refusal) (m : Segment) → ◌≡◌ {A = Read} (Err why) (Ok m) → ⊥
 refused why m e = let z : ◌≡◌ {A = ℕ} 0 1 = cc in omega arith
 
-same_segment : (x m : Segment) → Seen.Segment x ≡ Seen.Segment m → x ≡ m
+same_segment : (x m : Segment) → ◌≡◌ {A = Read} (Ok x) (Ok m) → x ≡ m
 same_segment x m e = cc
 
 -- what holds of each segment that a packet can be read as holds of the one that it is read as
@@ -55,34 +55,34 @@ module _ (g : Service) (servers : List Server) (p : List ℕ) (P : Way → Segme
     → (i : ServerNo) → number_of servers r.source r.transport.source g.servers ≡ Found.At i
     → P Way.Outbound (record { address = r.destination; port = r.transport.destination; sender = Sender.Server i; flags = r.transport.flags })) where
   by_endpoint : (r : Packet) → read_packet g.protocol p ≡ Reading.Taken r → (m : Segment)
-      → (to : Bool) → cond to (inbound_segment r) (Seen.Refused Refusal.OtherEndpoint) ≡ Seen.Segment m → P Way.Inbound m
+      → (to : Bool) → cond to (inbound_segment r) (Err Refusal.OtherEndpoint) ≡ Ok m → P Way.Inbound m
   by_endpoint r taken m true e = subst (P Way.Inbound) (same_segment _ m e) (inbound r taken)
   by_endpoint r taken m false e = absurd (refused Refusal.OtherEndpoint m e)
 
   by_number : (r : Packet) → read_packet g.protocol p ≡ Reading.Taken r → (m : Segment)
-      → (f : Found) → number_of servers r.source r.transport.source g.servers ≡ f → on_number r f ≡ Seen.Segment m → P Way.Outbound m
+      → (f : Found) → number_of servers r.source r.transport.source g.servers ≡ f → on_number r f ≡ Ok m → P Way.Outbound m
   by_number r taken m Found.Nobody number e = absurd (refused Refusal.OtherEndpoint m e)
   by_number r taken m (Found.At i) number e = subst (P Way.Outbound) (same_segment _ m e) (outbound r taken i number)
 
-  by_reading : (way : Way) (m : Segment) (r : Reading) → read_packet g.protocol p ≡ r → on_reading way g servers r ≡ Seen.Segment m → P way m
+  by_reading : (way : Way) (m : Segment) (r : Reading) → read_packet g.protocol p ≡ r → on_reading way g servers r ≡ Ok m → P way m
   by_reading way m (Reading.Refused fault) taken e = absurd (refused (Refusal.Packet fault) m e)
   by_reading Way.Inbound m (Reading.Taken r) taken e =
       by_endpoint r taken m (eqb r.destination g.address && eqb r.transport.destination g.port) e
   by_reading Way.Outbound m (Reading.Taken r) taken e = by_number r taken m _ refl e
 
-  pub read_by : (way : Way) (m : Segment) → segment_read way g servers p ≡ Seen.Segment m → P way m
+  pub read_by : (way : Way) (m : Segment) → segment_read way g servers p ≡ Ok m → P way m
   unfolding segment_read
   read_by way m e = by_reading way m (read_packet g.protocol p) refl e
 
 module _ (d : Director) (p : List ℕ) (m : Segment) where
-  pub read_from : (way : Way) → segment_read way d.service d.servers p ≡ Seen.Segment m → ReadFrom d.service.protocol p m
+  pub read_from : (way : Way) → segment_read way d.service d.servers p ≡ Ok m → ReadFrom d.service.protocol p m
   read_from way =
       read_by d.service d.servers p (λ _. ReadFrom d.service.protocol p)
       (λ r taken. record { packet = r; taken = taken; flags = refl; port = inl refl })
       (λ r taken i number. record { packet = r; taken = taken; flags = refl; port = inr refl }) way m
 
   -- it can be redirected
-  pub segment_redirectable : (way : Way) → segment_read way d.service d.servers p ≡ Seen.Segment m → Redirectable d.service.protocol p
+  pub segment_redirectable : (way : Way) → segment_read way d.service d.servers p ≡ Ok m → Redirectable d.service.protocol p
   segment_redirectable way e = let from = read_from way e in redirectable d.service.protocol p from.packet from.taken
 
 -- a transport header that was read: its ports are words of the transport part, and UDP has no flags

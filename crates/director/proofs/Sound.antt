@@ -1,4 +1,5 @@
 -- A sound state by its parts: what `sound_of` says, read off and put together again. Assumes nothing.
+use Rattle.std.specs.Prelude.{Ok, Err}
 use Prim.Native.Nat.{ℕ, ◌≤◌}
 use mathlib.Core.Bool.{Bool, true, false, cond, ◌&&◌, false≢true}
 use mathlib.Core.List.{List}
@@ -18,8 +19,7 @@ use Rattle.table.proofs.Rows.{is_row_lem, words-slots}
 use Rattle.director.specs.declared.state.Service.{Service}
 use Rattle.director.specs.declared.state.Director.{Director}
 use Rattle.director.specs.declared.state.Refusal.{Refusal}
-use Rattle.director.specs.declared.judge.Verdict.{Verdict}
-use Rattle.director.specs.Judge.{service_right, sizes_right, settings_judged, is_accepted, parts_sound, sound_of}
+use Rattle.director.specs.Judge.{Judged, service_right, sizes_right, settings_judged, is_accepted, parts_sound, sound_of}
 use Rattle.director.specs.Control.{number_judged}
 
 -- settings that refusals 1 to 4 don't name
@@ -40,7 +40,7 @@ pub record Sound (d : Director) (row : List ℕ) : Type 0 where
   pub table : table_sound d.service.protocol d.service.servers d.clock row d.servers ≡ true
 
 -- a choice that is accepted is its first answer
-chosen : (b : Bool) (v : Verdict) (why : Refusal) → is_accepted (cond b v (Verdict.Refused why)) ≡ true → (b ≡ true) × (is_accepted v ≡ true)
+chosen : (b : Bool) (v : Judged) (why : Refusal) → is_accepted (cond b v (Err why)) ≡ true → (b ≡ true) × (is_accepted v ≡ true)
 chosen true v why e = (refl, e)
 chosen false v why e = absurd (false≢true e)
 
@@ -62,15 +62,15 @@ accepted g servers row e =
     let (some, most, whole) = sizes_within n row sizes in
     record { some = some; most = most; whole = whole; right = right; set = set; distinct = distinct }
 
-pub judged : (g : Service) (servers : List Server) (row : List ℕ) → settings_judged g servers row ≡ Verdict.Accepted → Accepted g servers row
+pub judged : (g : Service) (servers : List Server) (row : List ℕ) → settings_judged g servers row ≡ Ok tt → Accepted g servers row
 judged g servers row e = accepted g servers row (ap is_accepted e)
 
 -- a number that is accepted is one of a sound state
-pub numbered : (d : Director) (row : List ℕ) (k : ℕ) → number_judged d row k ≡ Verdict.Accepted → sound_of d row ≡ true
+pub numbered : (d : Director) (row : List ℕ) (k : ℕ) → number_judged d row k ≡ Ok tt → sound_of d row ≡ true
 unfolding number_judged
 numbered d row k e = (chosen (sound_of d row) _ _ (ap is_accepted e)).0
 
-pub accepting : (g : Service) (servers : List Server) (row : List ℕ) → Accepted g servers row → settings_judged g servers row ≡ Verdict.Accepted
+pub accepting : (g : Service) (servers : List Server) (row : List ℕ) → Accepted g servers row → settings_judged g servers row ≡ Ok tt
 unfolding settings_judged
 accepting g servers row a = rw (le-leb _ _ a.some, le-leb _ _ a.most, a.whole, a.right, a.set, a.distinct)
 

@@ -1,4 +1,5 @@
 -- A current state: an accepted tick leaves one, and every packet at its clock leaves one, accepted or refused. Assumes nothing.
+use Rattle.std.specs.Prelude.{Ok, Err}
 use Prim.Native.Nat.{ℕ}
 use mathlib.Core.Bool.{Bool, true, false, false≢true}
 use mathlib.Core.List.{List, []}
@@ -16,12 +17,11 @@ use Rattle.table.proofs.Rows.{slots-words}
 use Rattle.director.specs.declared.state.Director.{Director}
 use Rattle.director.specs.declared.state.Way.{Way}
 use Rattle.director.specs.declared.segment.Segment.{Segment}
-use Rattle.director.specs.declared.segment.Seen.{Seen}
+use Rattle.director.specs.Segment.{Read, segment_read}
 use Rattle.director.specs.declared.decide.Decision.{Decision}
 use Rattle.director.specs.State.{is_accepted, Lent, lent, Held, in_words, refusal}
 use Rattle.director.specs.Judge.{sound_of}
 use Rattle.director.specs.Tick.{settled_slots, tick_on_clock, tick_of}
-use Rattle.director.specs.Segment.{segment_read}
 use Rattle.director.specs.Decide.{decided}
 use Rattle.director.specs.Carry.{carried_out}
 use Rattle.director.specs.Packets.{routed, on_seen, packet_held, packet_of}
@@ -36,14 +36,14 @@ use Rattle.director.proofs.Idle.{settled_same, settled_none_idle, carried_none_i
 -- 1. A packet at the clock of a current state
 
 -- 6 to 10 and 20 as the reading has them, then 12 to 14: the clock is the stored one, and nothing is removed
-abbrev pub on_seen_now : Director → Lent (List Slot) → Seen → Held
-on_seen_now d x (Seen.Refused why) = refusal why d x
-on_seen_now d x (Seen.Segment m) = routed d x m
+abbrev pub on_seen_now : Director → Lent (List Slot) → Read → Held
+on_seen_now d x (Err why) = refusal why d x
+on_seen_now d x (Ok m) = routed d x m
 
 module _ (d : Director) (row : List ℕ) (c : Current d row) where
-  by_seen : (p : List ℕ) (s : Seen) → on_seen d (lent (slots row) p) d.clock s ≡ on_seen_now d (lent (slots row) p) s
-  by_seen p (Seen.Refused why) = refl
-  by_seen p (Seen.Segment m) =
+  by_seen : (p : List ℕ) (s : Read) → on_seen d (lent (slots row) p) d.clock s ≡ on_seen_now d (lent (slots row) p) s
+  by_seen p (Err why) = refl
+  by_seen p (Ok m) =
       let (same, table) = settled_same d (slots row) d.clock c.none_idle in
       rw (le-ltb d.clock d.clock (omega arith), same, table)
 
@@ -67,10 +67,10 @@ carried_same d x m (Decision.Open k i walk) = (refl, refl)
 carried_same d x m (Decision.Renew old k i walk) = (refl, refl)
 
 module _ (d : Director) (row : List ℕ) (c : Current d row) where
-  seen_stays : (p : List ℕ) (s : Seen) → Stays d (on_seen_now d (lent (slots row) p) s)
+  seen_stays : (p : List ℕ) (s : Read) → Stays d (on_seen_now d (lent (slots row) p) s)
   unfolding routed
-  seen_stays p (Seen.Refused why) = record { service = refl; clock = refl; none_idle = c.none_idle }
-  seen_stays p (Seen.Segment m) =
+  seen_stays p (Err why) = record { service = refl; clock = refl; none_idle = c.none_idle }
+  seen_stays p (Ok m) =
       let x = lent (slots row) p in
       let a = decided d (slots row) m in
       let (service, clock) = carried_same d x m a in

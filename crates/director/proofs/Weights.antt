@@ -1,5 +1,6 @@
 -- The largest weight and the divisor that a state holds: true in a sound state and judged by it, and left as they are by ticks and packets. Assumes
 -- nothing.
+use Rattle.std.specs.Prelude.{Ok, Err}
 use Prim.Native.Nat.{ℕ}
 use mathlib.Core.Bool.{Bool, true, false}
 use mathlib.Core.List.{List, []}
@@ -9,11 +10,10 @@ use Rattle.table.specs.declared.slot.Slot.{Slot}
 use Rattle.director.specs.declared.state.Director.{Director}
 use Rattle.director.specs.declared.state.Way.{Way}
 use Rattle.director.specs.declared.segment.Segment.{Segment}
-use Rattle.director.specs.declared.segment.Seen.{Seen}
+use Rattle.director.specs.Segment.{Read, segment_read}
 use Rattle.director.specs.declared.decide.Decision.{Decision}
 use Rattle.director.specs.State.{Lent, lent, in_slots}
 use Rattle.director.specs.Judge.{sound_of}
-use Rattle.director.specs.Segment.{segment_read}
 use Rattle.director.specs.Decide.{decided}
 use Rattle.director.specs.Carry.{carried_out}
 use Rattle.director.specs.Tick.{settled, settled_lent, tick_on_clock, tick_on_sound, tick_of}
@@ -55,9 +55,9 @@ module _ (d : Director) (now : ℕ) where
       let after = settled_lent d x now in
       carried-left (settled d x.table now) after m (decided (settled d x.table now) after.table m)
 
-  seen-left : (x : Lent (List Slot)) (s : Seen) → (on_seen d x now s).director.weights ≡ d.weights
-  seen-left x (Seen.Refused why) = refl
-  seen-left x (Seen.Segment m) = clock_left x m (ltb now d.clock)
+  seen-left : (x : Lent (List Slot)) (s : Read) → (on_seen d x now s).director.weights ≡ d.weights
+  seen-left x (Err why) = refl
+  seen-left x (Ok m) = clock_left x m (ltb now d.clock)
 
   tick-left : (x : Lent (List ℕ)) (sound : Bool) → (tick_on_sound d x now sound).director.weights ≡ d.weights
   tick-left x true = ticked_left (in_slots x) (ltb now d.clock)

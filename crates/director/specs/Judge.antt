@@ -1,5 +1,5 @@
 -- What setup asks of its settings, and when a state is sound. Assumes nothing: these are definitions.
-use Rattle.std.specs.Prelude.{ℕ, Bool, true, false, cond, not, ◌&&◌, ◌||◌, List, eqb, leb}
+use Rattle.std.specs.Prelude.{ℕ, Bool, true, false, cond, not, ◌&&◌, ◌||◌, List, eqb, leb, Result, Ok, Err}
 use Rattle.servers.specs.declared.Server.{Server}
 use Rattle.servers.specs.declared.rules.Rule.{Rule}
 use Rattle.servers.specs.Rules.{all_keep}
@@ -10,7 +10,6 @@ use Rattle.table.specs.Sound.{table_sound}
 use Rattle.director.specs.declared.state.Service.{Service}
 use Rattle.director.specs.declared.state.Director.{Director}
 use Rattle.director.specs.declared.state.Refusal.{Refusal}
-use Rattle.director.specs.declared.judge.Verdict.{Verdict}
 
 -- TCP (6) or UDP (17)
 abbrev pub is_protocol : ℕ → Bool
@@ -24,21 +23,25 @@ service_right g = not (eqb g.address 0) && not (eqb g.port 0) && is_protocol g.p
 abbrev pub sizes_right : ℕ → List ℕ → Bool
 sizes_right n row = leb 1 n && leb n 64 && is_row row
 
+-- what is said of settings, or of a server's number: nothing, or a refusal
+abbrev pub Judged : Type 0
+Judged = Result (Unit {0}) Refusal
+
 -- the first of refusals 1 to 4 that the settings meet
-unfoldable pub settings_judged : Service → List Server → List ℕ → Verdict
+unfoldable pub settings_judged : Service → List Server → List ℕ → Judged
 settings_judged g servers row =
     cond (sizes_right g.servers row)
     (cond (service_right g)
     (cond (all_keep Rule.Set servers g.servers)
-    (cond (all_keep Rule.New servers g.servers) Verdict.Accepted
-    (Verdict.Refused Refusal.ServerRepeated))
-    (Verdict.Refused Refusal.ServerUnset))
-    (Verdict.Refused Refusal.Service))
-    (Verdict.Refused Refusal.Size)
+    (cond (all_keep Rule.New servers g.servers) (Ok tt)
+    (Err Refusal.ServerRepeated))
+    (Err Refusal.ServerUnset))
+    (Err Refusal.Service))
+    (Err Refusal.Size)
 
-abbrev pub is_accepted : Verdict → Bool
-is_accepted Verdict.Accepted = true
-is_accepted (Verdict.Refused why) = false
+abbrev pub is_accepted : Judged → Bool
+is_accepted (Ok done) = true
+is_accepted (Err why) = false
 
 -- "unused server places are zeros" (SCOPE 6.2); "the largest weight and the divisor (2.12) agree with the weights" (SCOPE 6.9); "the walk's place is in
 -- its range" (SCOPE 6.6); the slots and counts are sound

@@ -1,6 +1,6 @@
 -- What opens and what renews, the phases, the refusals' numbers and, at three places, their order, with SCOPE's values written out, what a state holds of the
 -- weights, and who is picked: where one of these is wrong in code and definition alike, a statement here fails. Assumes nothing: these are statements; proofs/Laws.antt proves them (`laws`).
-use Rattle.std.specs.Prelude.{ℕ, Bool, true, false, List, [], ◌∷◌, map, ◌↔◌, ◌≡◌, get_or}
+use Rattle.std.specs.Prelude.{ℕ, Bool, true, false, List, [], ◌∷◌, map, ◌↔◌, ◌≡◌, get_or, Err}
 use Rattle.lists.specs.Tests.{keep}
 use Rattle.packet.specs.declared.read.Fault.{Fault}
 use Rattle.packet.specs.declared.read.Flags.{Flags}
@@ -17,10 +17,8 @@ use Rattle.table.specs.Find.{of_client, first_from}
 use Rattle.director.specs.declared.state.Director.{Director}
 use Rattle.director.specs.declared.state.Refusal.{Refusal}
 use Rattle.director.specs.declared.state.Way.{Way}
-use Rattle.director.specs.declared.judge.Verdict.{Verdict}
 use Rattle.director.specs.declared.segment.Sender.{Sender}
 use Rattle.director.specs.declared.segment.Segment.{Segment}
-use Rattle.director.specs.declared.segment.Seen.{Seen}
 use Rattle.director.specs.declared.decide.Decision.{Decision}
 use Rattle.director.specs.State.{refusal_number, keeps_clock, Lent, refusal}
 use Rattle.director.specs.Judge.{sound_of}
@@ -73,13 +71,13 @@ is_its l m (Found.At k) = belongs m.sender (get_or l k.0 free_slot).server
 
 -- 15 before 5: a weight or count call of a state that is not sound, whatever the number
 abbrev pub UnsoundFirst : Type 0
-UnsoundFirst = (d : Director) (row : List ℕ) (k : ℕ) → sound_of d row ≡ false → number_judged d row k ≡ Verdict.Refused Refusal.Unsound
+UnsoundFirst = (d : Director) (row : List ℕ) (k : ℕ) → sound_of d row ≡ false → number_judged d row k ≡ Err Refusal.Unsound
 
 -- 6 to 10 and 20 before 11: a packet that can't be taken, whatever the clock
 abbrev pub UnreadFirst : Type 0
 UnreadFirst =
     (way : Way) (d : Director) (x : Lent (List Slot)) (now : ℕ) (why : Refusal)
-    → segment_read way d.service d.servers x.packet ≡ Seen.Refused why → packet_held way d x now ≡ refusal why d x
+    → segment_read way d.service d.servers x.packet ≡ Err why → packet_held way d x now ≡ refusal why d x
 
 -- 13 before 14: a packet that would open where no slot is free, whatever the weights
 abbrev pub FullFirst : Type 0

@@ -1,15 +1,14 @@
 -- The packet calls. Assumes nothing: these are definitions.
-use Rattle.std.specs.Prelude.{ℕ, Bool, true, false, List, ltb}
+use Rattle.std.specs.Prelude.{ℕ, Bool, true, false, List, ltb, Ok, Err}
 use Rattle.table.specs.declared.slot.Slot.{Slot}
 use Rattle.director.specs.declared.state.Director.{Director}
 use Rattle.director.specs.declared.state.Refusal.{Refusal}
 use Rattle.director.specs.declared.state.Way.{Way}
 use Rattle.director.specs.declared.segment.Segment.{Segment}
-use Rattle.director.specs.declared.segment.Seen.{Seen}
 use Rattle.director.specs.State.{Lent, lent, Result, Held, in_slots, in_words, refusal}
 use Rattle.director.specs.Judge.{sound_of}
 use Rattle.director.specs.Tick.{settled, settled_lent}
-use Rattle.director.specs.Segment.{segment_read}
+use Rattle.director.specs.Segment.{Read, segment_read}
 use Rattle.director.specs.Decide.{decided}
 use Rattle.director.specs.Carry.{carried_out}
 
@@ -23,9 +22,9 @@ on_clock d x m now true = refusal Refusal.EarlierClock d x
 on_clock d x m now false = routed (settled d x.table now) (settled_lent d x now) m
 
 -- 6 to 10 and 20 as the reading has them
-abbrev pub on_seen : Director → Lent (List Slot) → ℕ → Seen → Held
-on_seen d x now (Seen.Refused why) = refusal why d x
-on_seen d x now (Seen.Segment m) = on_clock d x m now (ltb now d.clock)
+abbrev pub on_seen : Director → Lent (List Slot) → ℕ → Read → Held
+on_seen d x now (Err why) = refusal why d x
+on_seen d x now (Ok m) = on_clock d x m now (ltb now d.clock)
 
 -- a packet call of a sound state
 unfoldable pub packet_held : Way → Director → Lent (List Slot) → ℕ → Held

@@ -1,8 +1,8 @@
 -- The numbers of refusals (SCOPE section 4), the result of a call, and a state with other servers. Assumes nothing: these are definitions.
-use Rattle.std.specs.Prelude.{ℕ, ◌<◌, ◌≤◌, Bool, true, false, not, List}
+use Rattle.std.specs.Prelude.{ℕ, Bool, true, false, not, List}
 use Rattle.packet.specs.Reading.{fault_number}
 use Rattle.servers.specs.declared.Server.{Server}
-use Rattle.servers.specs.Servers.{count_at, lowered, raised}
+use Rattle.servers.specs.Servers.{lowered, raised}
 use Rattle.scheduler.specs.declared.walk.Walk.{Walk}
 use Rattle.table.specs.declared.slot.Slot.{Slot}
 use Rattle.table.specs.Slots.{slots, words}
@@ -10,8 +10,6 @@ use Rattle.director.specs.declared.state.Director.{Director}
 use Rattle.director.specs.declared.state.Refusal.{Refusal}
 use Rattle.director.specs.declared.state.Answer.{Answer}
 use Rattle.director.specs.declared.state.Outcome.{Outcome}
-use Rattle.director.specs.declared.state.Shift.{Shift}
-use Rattle.director.specs.declared.state.Carried.{Carried}
 
 -- "Numbers given on refusal" (SCOPE section 4)
 abbrev pub refusal_number : Refusal → ℕ
@@ -70,31 +68,6 @@ with_one_less d i = with_servers d (lowered d.servers i) d.walk
 abbrev pub with_one_more : Director → ℕ → Walk → Director
 with_one_more d i walk = with_servers d (raised d.servers i) walk
 
--- nothing changes
-abbrev pub is_same : Shift → Bool
-is_same Shift.Same = true
-is_same (Shift.Less i) = false
-is_same (Shift.More i walk) = false
-is_same (Shift.Moved from to walk) = false
-
--- the state with what a packet changes of it
-abbrev pub shifted : Director → Shift → Director
-shifted d Shift.Same = d
-shifted d (Shift.Less i) = with_one_less d i.0
-shifted d (Shift.More i walk) = with_one_more d i.0 walk
-shifted d (Shift.Moved from to walk) = with_one_more (with_one_less d from.0) to.0 walk
-
--- where that can be done: a count falls from 1 or more, and rises to what a number of 32 bits holds
-abbrev pub CanShift : Director → Shift → Type 0
-CanShift d Shift.Same = Unit {0}
-CanShift d (Shift.Less i) = 1 ≤ count_at d.servers i.0
-CanShift d (Shift.More i walk) = count_at d.servers i.0 < 4294967295
-CanShift d (Shift.Moved from to walk) = (1 ≤ count_at d.servers from.0) × (count_at (lowered d.servers from.0) to.0 < 4294967295)
-
--- what a packet came to, with the state after it
-abbrev pub carried_by : Director → Carried → Outcome
-carried_by d c = record { answer = c.answer; director = shifted d c.shift }
-
 -- what a call is lent: the connection table, and the packet (none in a call that takes none)
 pub record Lent (T : Type 0) : Type 0 where
   pub table : T
@@ -124,9 +97,13 @@ Result = Settles (List ℕ)
 abbrev pub Held : Type 0
 Held = Settles (List Slot)
 
+-- an answer, with the state, the row and the packet at a function's exit
+abbrev pub left_with : Answer → Director → (row packet : List ℕ) → Result
+left_with answer d row packet = record { answer = answer; director = d; lent = lent row packet }
+
 -- what a function gives back, with the row and the packet at its exit
 abbrev pub result_of : Outcome → (row packet : List ℕ) → Result
-result_of o row packet = record { answer = o.answer; director = o.director; lent = lent row packet }
+result_of o row packet = left_with o.answer o.director row packet
 
 abbrev pub in_slots : Lent (List ℕ) → Lent (List Slot)
 in_slots x = with_table x (slots x.table)

@@ -3,37 +3,29 @@ ghost use Rattle.std.specs.Prelude.{◌≡◌};
 ghost use Rattle.packet.specs.Redirect.{Redirectable};
 ghost use Rattle.table.specs.Slots.{slots, words, slot_at};
 ghost use Rattle.table.specs.Changes.{freed};
-ghost use Rattle.director.specs.State.{with_one_less, CanShift, carried_by, lent, result_of, in_words};
+ghost use Rattle.director.specs.State.{with_one_less, lent, left_with, in_words};
 ghost use Rattle.director.specs.declared.state.Answer.{Answer};
 ghost use Rattle.director.specs.Carry.{phase_of, sent_on, forwarded, kept_held, ended_held, opened_held, renewed_held, carried_out, Ready, EndReady, OpenReady, Feasible};
 
 use crate::decide::Decision;
 use crate::segment::{Segment, Sender};
-use crate::state::{Answer, Carried, Change, Director, Service, Shift, decline};
+use crate::state::{Answer, Change, Director, Service, with_one_less, with_one_more};
 use packet::redirect::{Side, redirect_packet};
 use scheduler::walk::Walk;
 use servers::{Server, ServerNo, server_at};
 use table::change::{free_slot, open_slot, touch_slot};
 use table::slot::{SlotNo, server_no_at, slot_at};
 
-// The phase after a packet of a connection.
+// The phase after a packet of a connection. (Phases are numbers: words of the lent row.)
 fn phase_after(phase: u32, fin: bool, sender: Sender) -> u32
     ensures { result ≡ phase_of phase fin sender }
 {
-    match fin {
-        false => phase,
-        true => match sender {
-            Sender::Client => match phase {
-                1 => 2,
-                3 => 4,
-                _ => phase,
-            },
-            Sender::Server(_) => match phase {
-                1 => 3,
-                2 => 4,
-                _ => phase,
-            },
-        },
+    match (fin, sender, phase) {
+        (true, Sender::Client, 1) => 2,
+        (true, Sender::Client, 3) => 4,
+        (true, Sender::Server(_), 1) => 3,
+        (true, Sender::Server(_), 2) => 4,
+        _ => phase,
     }
 }
 
@@ -42,125 +34,85 @@ fn forward(packet: &mut [u8], service: Service, server: Server, sender: Sender)
     requires { Redirectable service.protocol packet.old }
     ensures { packet.new ≡ sent_on service server packet.old sender }
 {
-    match sender {
-        Sender::Client => {
-            redirect_packet(
-                packet,
-                service.protocol,
-                Side::Destination,
-                server.address,
-                server.port,
-            );
-        }
-        Sender::Server(_) => {
-            redirect_packet(
-                packet,
-                service.protocol,
-                Side::Source,
-                service.address,
-                service.port,
-            );
-        }
-    }
+    let (side, address, port) = match sender {
+        Sender::Client => (Side::Destination, server.address, server.port),
+        Sender::Server(_) => (Side::Source, service.address, service.port),
+    };
+    redirect_packet(packet, service.protocol, side, address, port);
 }
 
-// An accepted packet of server `no`, and what it changes of the state.
+// An accepted packet of server `no`.
 fn pass(
-    director: Director,
+    director: &Director,
     packet: &mut [u8],
     segment: Segment,
     no: ServerNo,
     change: Change,
-    shift: Shift,
-) -> Carried
-    requires { Redirectable director.service.protocol packet.old }
-    ensures packet { packet.new ≡ forwarded director no.0 packet.old segment.sender }
-    ensures answer { result.answer ≡ Answer.Passed no change }
-    ensures shift { result.shift ≡ shift }
+) -> Answer
+    requires { Redirectable director.now.service.protocol packet.old }
+    ensures packet { packet.new ≡ forwarded director.now no.0 packet.old segment.sender }
+    ensures answer { result ≡ Answer.Passed no change }
 {
-    let service = director.service;
-    let servers = director.servers;
-    let sender = segment.sender;
-    forward(packet, service, server_at(servers, no), sender);
-    Carried {
-        answer: Answer::Passed(no, change),
-        shift,
-    }
+    let server = server_at(director.servers, no);
+    forward(packet, director.service, server, segment.sender);
+    Answer::Passed(no, change)
 }
 
 // The packet's connection, in slot `k`, is kept.
 fn keep(
-    director: Director,
+    director: &Director,
     row: &mut [u32],
     packet: &mut [u8],
     segment: Segment,
     k: SlotNo,
-) -> Carried
-    requires { Ready director row.old packet.old k.0 }
-    ensures can { CanShift director result.shift }
-    ensures carried { result_of (carried_by director result) row.new packet.new ≡ in_words (kept_held director (lent (slots row.old) packet.old) segment k.0) }
+) -> Answer
+    requires { Ready director.now row.old packet.old k.0 }
+    ensures { left_with result director.now row.new packet.new ≡ in_words (kept_held director.now (lent (slots row.old) packet.old) segment k.0) }
 {
     let slot = slot_at(row, k);
-    let no = slot.server;
-    let sender = segment.sender;
-    let flags = segment.flags;
-    let phase = phase_after(slot.phase, flags.fin, sender);
+    let phase = phase_after(slot.phase, segment.flags.fin, segment.sender);
     touch_slot(row, k, phase, director.clock);
-    pass(director, packet, segment, no, Change::Kept, Shift::Same)
+    pass(director, packet, segment, slot.server, Change::Kept)
 }
 
 // The packet's connection, in slot `k`, is ended.
 fn end(
-    director: Director,
+    director: &mut Director,
     row: &mut [u32],
     packet: &mut [u8],
     segment: Segment,
     k: SlotNo,
-) -> Carried
-    requires { EndReady director row.old packet.old k.0 }
-    ensures can { CanShift director result.shift }
-    ensures carried { result_of (carried_by director result) row.new packet.new ≡ in_words (ended_held director (lent (slots row.old) packet.old) segment k.0) }
+) -> Answer
+    requires { EndReady director.old row.old packet.old k.0 }
+    ensures { left_with result director.new row.new packet.new ≡ in_words (ended_held director.old (lent (slots row.old) packet.old) segment k.0) }
 {
     let no = server_no_at(row, k);
     free_slot(row, k);
-    pass(
-        director,
-        packet,
-        segment,
-        no,
-        Change::Ended,
-        Shift::Less(no),
-    )
+    with_one_less(director, no);
+    pass(director, packet, segment, no, Change::Ended)
 }
 
 // A connection of the packet's client to server `no` is opened in slot `k`.
 fn open(
-    director: Director,
+    director: &mut Director,
     row: &mut [u32],
     packet: &mut [u8],
     segment: Segment,
     k: SlotNo,
     no: ServerNo,
     walk: Walk,
-) -> Carried
-    requires { OpenReady director row.old packet.old k.0 no.0 }
-    ensures can { CanShift director result.shift }
-    ensures carried { result_of (carried_by director result) row.new packet.new ≡ in_words (opened_held director (lent (slots row.old) packet.old) segment k.0 no walk) }
+) -> Answer
+    requires { OpenReady director.old row.old packet.old k.0 no.0 }
+    ensures { left_with result director.new row.new packet.new ≡ in_words (opened_held director.old (lent (slots row.old) packet.old) segment k.0 no walk) }
 {
     open_slot(row, k, segment.address, segment.port, no, director.clock);
-    pass(
-        director,
-        packet,
-        segment,
-        no,
-        Change::Opened,
-        Shift::More(no, walk),
-    )
+    with_one_more(director, no, walk);
+    pass(director, packet, segment, no, Change::Opened)
 }
 
 // The connection in slot `old` ends, and one of the packet's client to server `no` is opened in slot `k`.
 fn renew(
-    director: Director,
+    director: &mut Director,
     row: &mut [u32],
     packet: &mut [u8],
     segment: Segment,
@@ -168,39 +120,30 @@ fn renew(
     k: SlotNo,
     no: ServerNo,
     walk: Walk,
-) -> Carried
-    requires end_ready { EndReady director row.old packet.old old.0 }
-    requires open_ready { OpenReady (with_one_less director (slot_at row.old old.0).server.0) (words (freed (slots row.old) old.0)) packet.old k.0 no.0 }
-    ensures can { CanShift director result.shift }
-    ensures carried { result_of (carried_by director result) row.new packet.new ≡ in_words (renewed_held director (lent (slots row.old) packet.old) segment old.0 k.0 no walk) }
+) -> Answer
+    requires end_ready { EndReady director.old row.old packet.old old.0 }
+    requires open_ready { OpenReady (with_one_less director.old (slot_at row.old old.0).server.0) (words (freed (slots row.old) old.0)) packet.old k.0 no.0 }
+    ensures { left_with result director.new row.new packet.new ≡ in_words (renewed_held director.old (lent (slots row.old) packet.old) segment old.0 k.0 no walk) }
 {
     let from = server_no_at(row, old);
     free_slot(row, old);
-    open_slot(row, k, segment.address, segment.port, no, director.clock);
-    pass(
-        director,
-        packet,
-        segment,
-        no,
-        Change::Opened,
-        Shift::Moved(from, no, walk),
-    )
+    with_one_less(director, from);
+    open(director, row, packet, segment, k, no, walk)
 }
 
 // Carries out what was decided of a packet.
 pub fn carry_out(
-    director: Director,
+    director: &mut Director,
     row: &mut [u32],
     packet: &mut [u8],
     segment: Segment,
     decision: Decision,
-) -> Carried
-    requires { Feasible director row.old packet.old decision }
-    ensures can { CanShift director result.shift }
-    ensures carried { result_of (carried_by director result) row.new packet.new ≡ in_words (carried_out director (lent (slots row.old) packet.old) segment decision) }
+) -> Answer
+    requires { Feasible director.old row.old packet.old decision }
+    ensures { left_with result director.new row.new packet.new ≡ in_words (carried_out director.old (lent (slots row.old) packet.old) segment decision) }
 {
     match decision {
-        Decision::Refuse(why) => decline(why),
+        Decision::Refuse(why) => Answer::Refused(why),
         Decision::Keep(k) => keep(director, row, packet, segment, k),
         Decision::End(k) => end(director, row, packet, segment, k),
         Decision::Open(k, no, walk) => open(director, row, packet, segment, k, no, walk),

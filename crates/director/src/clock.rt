@@ -5,37 +5,24 @@ ghost use Rattle.table.specs.Slots.{slots, words};
 ghost use Rattle.director.specs.Judge.{sound_of};
 ghost use Rattle.director.specs.Tick.{settled, settled_slots, idle_now};
 
-use crate::state::Director;
+use crate::state::{Director, Service};
 use table::expire::expire;
 
-// The state with a clock stored and the idle connections removed, and how many they were.
-#[derive(Clone, Copy)]
-pub struct Settled {
-    pub director: Director,
-    pub removed: u32,
-}
-
-// Stores an accepted clock and removes the connections that are idle at it.
-pub fn settle(director: Director, row: &mut [u32], clock: u32) -> Settled
-    requires { (sound_of director row.old ≡ true) × (director.clock ≤ clock) }
-    ensures row { row.new ≡ words (settled_slots director (slots row.old) clock) }
-    ensures director { result.director ≡ settled director (slots row.old) clock }
-    ensures removed { result.removed ≡ count_of (idle_now director clock) (slots row.old) }
+// Stores an accepted clock and removes the connections that are idle at it; tells how many they were.
+pub fn settle(director: &mut Director, row: &mut [u32], clock: u32) -> u32
+    requires { (sound_of director.old row.old ≡ true) × (director.old.clock ≤ clock) }
+    ensures row { row.new ≡ words (settled_slots director.old (slots row.old) clock) }
+    ensures director { director.new ≡ settled director.old (slots row.old) clock }
+    ensures removed { result ≡ count_of (idle_now director.old clock) (slots row.old) }
 {
-    let service = director.service;
-    let servers = director.servers;
-    let weights = director.weights;
-    let walk = director.walk;
-    let expired = expire(row, servers, service.protocol, service.servers, clock);
+    let Service {
+        protocol,
+        servers,
+        ..
+    } = director.service;
+    let expired = expire(row, director.servers, protocol, servers, clock);
     let left = expired.servers;
-    Settled {
-        director: Director {
-            service,
-            servers: left,
-            weights,
-            walk,
-            clock,
-        },
-        removed: expired.removed,
-    }
+    director.servers = left;
+    director.clock = clock;
+    expired.removed
 }

@@ -7,7 +7,7 @@ ghost use Rattle.director.specs.Decide.{is_syn, opens, belongs, next_pick, on_we
 ghost use Rattle.director.specs.declared.decide.Decision.{Decision};
 
 use crate::segment::{Segment, Sender};
-use crate::state::{Director, Refusal, with_one_less};
+use crate::state::{Director, Refusal, Service, with_one_less};
 use packet::read::Flags;
 use scheduler::pick;
 use scheduler::walk::{Pick, Walk};
@@ -31,31 +31,16 @@ pub enum Decision {
 fn is_syn(flags: Flags) -> bool
     ensures { result ≡ is_syn flags }
 {
-    let Flags { syn, ack, rst, fin } = flags;
-    match ack {
-        true => false,
-        false => match rst {
-            true => false,
-            false => match fin {
-                true => false,
-                false => syn,
-            },
-        },
-    }
+    flags.syn && !flags.ack && !flags.rst && !flags.fin
 }
 
 // Whether a packet opens a connection where its client has none.
 fn opens_connection(protocol: u8, segment: Segment) -> bool
     ensures { result ≡ opens protocol segment }
 {
-    let sender = segment.sender;
-    let flags = segment.flags;
-    match sender {
+    match segment.sender {
         Sender::Server(_) => false,
-        Sender::Client => match protocol {
-            6 => is_syn(flags),
-            _ => true,
-        },
+        Sender::Client => protocol != 6 || is_syn(segment.flags),
     }
 }
 
@@ -73,26 +58,30 @@ fn belongs_to(sender: Sender, no: ServerNo) -> bool
 fn renews_connection(segment: Segment, phase: u32) -> bool
     ensures { result ≡ renews segment phase }
 {
-    match phase {
-        4 => opens_connection(6, segment),
-        _ => false,
-    }
+    phase == 4 && opens_connection(6, segment)
 }
 
 // The server that is next, by the scheduler.
-fn next_pick(director: Director) -> Pick
-    ensures { result ≡ next_pick director }
+fn next_pick(director: &Director) -> Pick
+    ensures { result ≡ next_pick director.now }
 {
-    let service = director.service;
-    let servers = director.servers;
-    let held = director.weights;
-    let walk = director.walk;
-    pick(service.scheduler, servers, service.servers, held, walk)
+    let Service {
+        scheduler,
+        servers: n,
+        ..
+    } = director.service;
+    pick(
+        scheduler,
+        director.servers,
+        n,
+        director.weights,
+        director.walk,
+    )
 }
 
 // A packet that would open a connection in the free slot `k`: 14 is tested before the pick, so the walk is not moved by it.
-fn decide_free(director: Director, k: SlotNo) -> Decision
-    ensures { result ≡ on_weights director (Decision.Open k) }
+fn decide_free(director: &Director, k: SlotNo) -> Decision
+    ensures { result ≡ on_weights director.now (Decision.Open k) }
 {
     if none_weighs(director.weights) {
         return Decision::Refuse(Refusal::NoWeight);
@@ -102,48 +91,45 @@ fn decide_free(director: Director, k: SlotNo) -> Decision
 }
 
 // A packet that would open a connection where the finished one in slot `k` ends: its slot counts as free, its server has one less.
-fn decide_renewal(director: Director, row: &[u32], k: SlotNo) -> Decision
+fn decide_renewal(director: &Director, row: &[u32], k: SlotNo) -> Decision
     requires within { k.0 < length row.now / words_per_slot }
-    requires counted { 1 ≤ count_at director.servers (slot_at row.now k.0).server.0 }
-    ensures { result ≡ on_renewal director (slots row.now) k }
+    requires counted { 1 ≤ count_at director.now.servers (slot_at row.now k.0).server.0 }
+    ensures { result ≡ on_renewal director.now (slots row.now) k }
 {
-    let ended = with_one_less(director, server_no_at(row, k));
+    let mut ended = *director;
+    with_one_less(&mut ended, server_no_at(row, k));
     let free = find_free_with(row, k);
     if none_weighs(ended.weights) {
         return Decision::Refuse(Refusal::NoWeight);
     }
-    let Pick { server, walk } = next_pick(ended);
+    let Pick { server, walk } = next_pick(&ended);
     Decision::Renew(k, free, server, walk)
 }
 
 // A packet whose client has a connection, in slot `k`.
-fn decide_present(director: Director, row: &[u32], segment: Segment, k: SlotNo) -> Decision
-    requires sound { sound_of director row.now ≡ true }
+fn decide_present(director: &Director, row: &[u32], segment: Segment, k: SlotNo) -> Decision
+    requires sound { sound_of director.now row.now ≡ true }
     requires within { k.0 < length row.now / words_per_slot }
-    ensures { result ≡ on_present director (slots row.now) segment k (slot_at row.now k.0) }
+    ensures { result ≡ on_present director.now (slots row.now) segment k (slot_at row.now k.0) }
 {
     let slot = slot_at(row, k);
-    let sender = segment.sender;
-    if !belongs_to(sender, slot.server) {
+    if !belongs_to(segment.sender, slot.server) {
         return Decision::Refuse(Refusal::NoConnection);
     }
     if renews_connection(segment, slot.phase) {
         return decide_renewal(director, row, k);
     }
-    let flags = segment.flags;
-    let rst = flags.rst;
-    match rst {
-        true => Decision::End(k),
-        false => Decision::Keep(k),
+    if segment.flags.rst {
+        return Decision::End(k);
     }
+    Decision::Keep(k)
 }
 
 // A packet whose client has no connection.
-fn decide_absent(director: Director, row: &[u32], segment: Segment) -> Decision
-    ensures { result ≡ on_absent director (slots row.now) segment }
+fn decide_absent(director: &Director, row: &[u32], segment: Segment) -> Decision
+    ensures { result ≡ on_absent director.now (slots row.now) segment }
 {
-    let service = director.service;
-    if !opens_connection(service.protocol, segment) {
+    if !opens_connection(director.service.protocol, segment) {
         return Decision::Refuse(Refusal::NoConnection);
     }
     match find_free(row) {
@@ -153,9 +139,10 @@ fn decide_absent(director: Director, row: &[u32], segment: Segment) -> Decision
 }
 
 // Refusals 12 to 14 in their order, or what becomes of the packet's connection.
-pub fn decide(director: Director, row: &[u32], segment: Segment) -> Decision
-    requires { sound_of director row.now ≡ true }
-    ensures { result ≡ decided director (slots row.now) segment }
+#[tactic(auto, unfolding(crate::specs::Decide::decided))]
+pub fn decide(director: &Director, row: &[u32], segment: Segment) -> Decision
+    requires { sound_of director.now row.now ≡ true }
+    ensures { result ≡ decided director.now (slots row.now) segment }
 {
     match find_client(row, segment.address, segment.port) {
         Found::At(k) => decide_present(director, row, segment, k),

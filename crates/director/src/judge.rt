@@ -9,91 +9,83 @@ use servers::Server;
 use servers::rules::{Rule, all_keep};
 use table::slot::is_row;
 
-// What is said of settings.
-#[derive(Clone, Copy)]
-pub enum Verdict {
-    Accepted,
-    Refused(Refusal),
-}
-
 // Whether a protocol is TCP or UDP.
 fn is_protocol(protocol: u8) -> bool
     ensures { result ≡ is_protocol protocol }
 {
-    match protocol {
-        6 => true,
-        17 => true,
-        _ => false,
-    }
+    matches!(protocol, 6 | 17)
 }
 
 // Whether refusal 2 is not given.
 fn is_service_right(service: Service) -> bool
     ensures { result ≡ service_right service }
 {
-    (service.address != 0)
-        & (service.port != 0)
-        & is_protocol(service.protocol)
-        & is_scheduler(service.scheduler)
+    service.address != 0
+        && service.port != 0
+        && is_protocol(service.protocol)
+        && is_scheduler(service.scheduler)
 }
 
 // Whether refusal 1 is not given.
 fn are_sizes_right(n: u32, row: &[u32]) -> bool
     ensures { result ≡ sizes_right n row.now }
 {
-    (1 <= n) & (n <= 64) & is_row(row)
+    (1..=64).contains(&n) && is_row(row)
 }
 
 // The first of refusals 1 to 4 that the settings meet.
-pub fn judge_settings(service: Service, servers: [Server; 64], row: &[u32]) -> Verdict
-    ensures { result ≡ settings_judged service servers row.now }
+#[tactic(auto, unfolding(crate::specs::Judge::settings_judged))]
+pub fn judge_settings(service: Service, servers: &[Server; 64], row: &[u32]) -> Result<(), Refusal>
+    ensures { result ≡ settings_judged service servers.now row.now }
 {
     let n = service.servers;
     if !are_sizes_right(n, row) {
-        return Verdict::Refused(Refusal::Size);
+        return Err(Refusal::Size);
     }
     if !is_service_right(service) {
-        return Verdict::Refused(Refusal::Service);
+        return Err(Refusal::Service);
     }
-    if !all_keep(Rule::Set, servers, n) {
-        return Verdict::Refused(Refusal::ServerUnset);
+    if !all_keep(Rule::Set, *servers, n) {
+        return Err(Refusal::ServerUnset);
     }
-    if !all_keep(Rule::New, servers, n) {
-        return Verdict::Refused(Refusal::ServerRepeated);
+    if !all_keep(Rule::New, *servers, n) {
+        return Err(Refusal::ServerRepeated);
     }
-    Verdict::Accepted
+    Ok(())
 }
 
 // Whether what refusals 1 to 4 don't ask about is sound too: unused places, the numbers held of the weights, walk, slots and counts.
-fn are_parts_sound(director: Director, row: &[u32]) -> bool
-    requires { director.service.servers ≤ 64 }
-    ensures { result ≡ parts_sound director row.now }
+#[tactic(auto, unfolding(crate::specs::Judge::parts_sound))]
+fn are_parts_sound(director: &Director, row: &[u32]) -> bool
+    requires { director.now.service.servers ≤ 64 }
+    ensures { result ≡ parts_sound director.now row.now }
 {
-    let service = director.service;
-    let servers = director.servers;
-    let n = service.servers;
-    if !all_keep(Rule::UnusedFrom(n), servers, 64) {
+    let Service {
+        protocol,
+        scheduler,
+        servers: n,
+        ..
+    } = director.service;
+    if !all_keep(Rule::UnusedFrom(n), director.servers, 64) {
         return false;
     }
     let held = director.weights;
-    if !weights_agree(held, servers, n) {
+    if !weights_agree(held, director.servers, n) {
         return false;
     }
-    let walk = director.walk;
-    if !in_range(service.scheduler, held.largest, n, walk) {
+    if !in_range(scheduler, held.largest, n, director.walk) {
         return false;
     }
-    table::sound::is_sound(row, servers, service.protocol, n, director.clock)
+    table::sound::is_sound(row, director.servers, protocol, n, director.clock)
 }
 
 // Whether the state handed in is sound: 15 exactly where it is not.
-pub fn is_sound(director: Director, row: &[u32]) -> bool
-    ensures { result ≡ sound_of director row.now }
+#[tactic(auto, unfolding(crate::specs::Judge::sound_of))]
+pub fn is_sound(director: &Director, row: &[u32]) -> bool
+    ensures { result ≡ sound_of director.now row.now }
 {
-    let service = director.service;
-    let servers = director.servers;
-    match judge_settings(service, servers, row) {
-        Verdict::Refused(_) => false,
-        Verdict::Accepted => are_parts_sound(director, row),
+    match judge_settings(director.service, &director.servers, row) {
+        Err(_) => false,
+        Ok(()) => are_parts_sound(director, row),
     }
 }

@@ -2,7 +2,7 @@
 ghost use Rattle.std.specs.Prelude.{◌≡◌, true};
 ghost use Rattle.packet.specs.Redirect.{Redirectable};
 ghost use Rattle.table.specs.Slots.{slots};
-ghost use Rattle.director.specs.State.{CanShift, carried_by, lent, result_of, in_words};
+ghost use Rattle.director.specs.State.{lent, left_with, result_of, in_words};
 ghost use Rattle.director.specs.Judge.{sound_of};
 ghost use Rattle.director.specs.Packets.{routed, packet_held, packet_of};
 ghost use Rattle.director.specs.Current.{Current};
@@ -12,14 +12,14 @@ use crate::carry::carry_out;
 use crate::clock::settle;
 use crate::decide::decide;
 use crate::judge::is_sound;
-use crate::segment::{Seen, Segment, read_segment};
-use crate::state::{Carried, Director, Outcome, Refusal, Way, decline, outcome_of, refuse};
+use crate::segment::{Segment, read_segment};
+use crate::state::{Answer, Director, Outcome, Refusal, Way, refuse};
 
 // A packet that got past 11: its refusal, 12 to 14, or what becomes of its connection.
-fn route(director: Director, row: &mut [u32], packet: &mut [u8], segment: Segment) -> Carried
-    requires { (sound_of director row.old ≡ true) × Redirectable director.service.protocol packet.old }
-    ensures can { CanShift director result.shift }
-    ensures carried { result_of (carried_by director result) row.new packet.new ≡ in_words (routed director (lent (slots row.old) packet.old) segment) }
+#[tactic(auto, unfolding(crate::specs::Packets::routed))]
+fn route(director: &mut Director, row: &mut [u32], packet: &mut [u8], segment: Segment) -> Answer
+    requires { (sound_of director.old row.old ≡ true) × Redirectable director.old.service.protocol packet.old }
+    ensures { left_with result director.new row.new packet.new ≡ in_words (routed director.old (lent (slots row.old) packet.old) segment) }
 {
     let decision = decide(director, row, segment);
     carry_out(director, row, packet, segment, decision)
@@ -28,41 +28,39 @@ fn route(director: Director, row: &mut [u32], packet: &mut [u8], segment: Segmen
 // A packet call of a sound state.
 fn packet_sound(
     way: Way,
-    director: Director,
+    director: &mut Director,
     row: &mut [u32],
     packet: &mut [u8],
     clock: u32,
-) -> Outcome
-    requires { sound_of director row.old ≡ true }
-    ensures { result_of result row.new packet.new ≡ in_words (packet_held way director (lent (slots row.old) packet.old) clock) }
+) -> Answer
+    requires { sound_of director.old row.old ≡ true }
+    ensures { left_with result director.new row.new packet.new ≡ in_words (packet_held way director.old (lent (slots row.old) packet.old) clock) }
 {
     match read_segment(way, director, packet) {
-        Seen::Refused(why) => refuse(director, why),
-        Seen::Segment(segment) => {
+        Err(why) => Answer::Refused(why),
+        Ok(segment) => {
             if clock < director.clock {
-                return refuse(director, Refusal::EarlierClock);
+                return Answer::Refused(Refusal::EarlierClock);
             }
-            let settled = settle(director, row, clock);
-            let present = settled.director;
-            let carried = route(present, row, packet, segment);
-            outcome_of(present, carried)
+            settle(director, row, clock);
+            route(director, row, packet, segment)
         }
     }
 }
 
 // A packet call of a current state at its clock: there is nothing to judge and nothing to remove.
-pub fn take_current(way: Way, director: Director, row: &mut [u32], packet: &mut [u8]) -> Carried
-    requires { Current director row.old }
-    ensures can { CanShift director result.shift }
-    ensures taken { result_of (carried_by director result) row.new packet.new ≡ packet_of way director row.old packet.old director.clock }
+pub fn take_current(way: Way, director: &mut Director, row: &mut [u32], packet: &mut [u8]) -> Answer
+    requires { Current director.old row.old }
+    ensures { left_with result director.new row.new packet.new ≡ packet_of way director.old row.old packet.old director.old.clock }
 {
     match read_segment(way, director, packet) {
-        Seen::Refused(why) => decline(why),
-        Seen::Segment(segment) => route(director, row, packet, segment),
+        Err(why) => Answer::Refused(why),
+        Ok(segment) => route(director, row, packet, segment),
     }
 }
 
 // A packet call, either way: 15 where the state handed in is not sound.
+#[tactic(auto, unfolding(crate::specs::Packets::packet_of))]
 pub fn take_packet(
     way: Way,
     director: Director,
@@ -72,10 +70,15 @@ pub fn take_packet(
 ) -> Outcome
     ensures { result_of result row.new packet.new ≡ packet_of way director row.old packet.old clock }
 {
-    if !is_sound(director, row) {
+    if !is_sound(&director, row) {
         return refuse(director, Refusal::Unsound);
     }
-    packet_sound(way, director, row, packet, clock)
+    let mut after = director;
+    let answer = packet_sound(way, &mut after, row, packet, clock);
+    Outcome {
+        answer,
+        director: after,
+    }
 }
 
 // Takes a packet from a client.

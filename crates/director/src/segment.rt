@@ -23,63 +23,48 @@ pub struct Segment {
     pub flags: Flags,
 }
 
-// What reading a packet for the director finds.
-#[derive(Clone, Copy)]
-pub enum Seen {
-    Refused(Refusal),
-    Segment(Segment),
-}
-
 // An inbound packet: its destination is the virtual address and port, or refusal 10.
-fn from_client(service: Service, p: Packet) -> Seen
+fn from_client(service: Service, p: Packet) -> Result<Segment, Refusal>
     ensures { result ≡ from_client service p }
 {
-    let header = p.transport;
-    let flags = header.flags;
-    if p.destination != service.address {
-        return Seen::Refused(Refusal::OtherEndpoint);
+    if p.destination != service.address || p.transport.destination != service.port {
+        return Err(Refusal::OtherEndpoint);
     }
-    if header.destination != service.port {
-        return Seen::Refused(Refusal::OtherEndpoint);
-    }
-    Seen::Segment(Segment {
+    Ok(Segment {
         address: p.source,
-        port: header.source,
+        port: p.transport.source,
         sender: Sender::Client,
-        flags,
+        flags: p.transport.flags,
     })
 }
 
 // An outbound packet: its source is a server's address and port, or refusal 10.
-fn from_server(director: Director, p: Packet) -> Seen
-    requires { director.service.servers ≤ 64 }
-    ensures { result ≡ from_server director.service director.servers p }
+fn from_server(director: &Director, p: Packet) -> Result<Segment, Refusal>
+    requires { director.now.service.servers ≤ 64 }
+    ensures { result ≡ from_server director.now.service director.now.servers p }
 {
-    let service = director.service;
-    let servers = director.servers;
-    let header = p.transport;
-    let flags = header.flags;
-    match number_of(servers, service.servers, p.source, header.source) {
-        Found::Nobody => Seen::Refused(Refusal::OtherEndpoint),
-        Found::At(no) => Seen::Segment(Segment {
+    let n = director.service.servers;
+    match number_of(director.servers, n, p.source, p.transport.source) {
+        Found::Nobody => Err(Refusal::OtherEndpoint),
+        Found::At(no) => Ok(Segment {
             address: p.destination,
-            port: header.destination,
+            port: p.transport.destination,
             sender: Sender::Server(no),
-            flags,
+            flags: p.transport.flags,
         }),
     }
 }
 
 // What a packet says, or the first of refusals 6, 20, 7 to 10.
-pub fn read_segment(way: Way, director: Director, packet: &[u8]) -> Seen
-    requires { director.service.servers ≤ 64 }
-    ensures { result ≡ segment_read way director.service director.servers packet.now }
+#[tactic(auto, unfolding(crate::specs::Segment::segment_read))]
+pub fn read_segment(way: Way, director: &Director, packet: &[u8]) -> Result<Segment, Refusal>
+    requires { director.now.service.servers ≤ 64 }
+    ensures { result ≡ segment_read way director.now.service director.now.servers packet.now }
 {
-    let service = director.service;
-    match read_packet(service.protocol, packet) {
-        Reading::Refused(fault) => Seen::Refused(Refusal::Packet(fault)),
+    match read_packet(director.service.protocol, packet) {
+        Reading::Refused(fault) => Err(Refusal::Packet(fault)),
         Reading::Taken(p) => match way {
-            Way::Inbound => from_client(service, p),
+            Way::Inbound => from_client(director.service, p),
             Way::Outbound => from_server(director, p),
         },
     }

@@ -3,7 +3,7 @@ ghost use Rattle.std.specs.Prelude.{◌≡◌, [], ◌≤◌};
 ghost use Rattle.director.specs.State.{result_of};
 ghost use Rattle.director.specs.Setup.{new_director, setup_of};
 
-use crate::judge::{Verdict, judge_settings};
+use crate::judge::judge_settings;
 use crate::state::{Answer, Director, Outcome, Service, refuse};
 use scheduler::start;
 use scheduler::weights::weights_of;
@@ -12,24 +12,23 @@ use servers::fresh::fresh_servers;
 use table::clear::clear_row;
 
 // The state that an accepted setup makes.
-fn new_director(service: Service, servers: [Server; 64]) -> Director
+fn new_director(service: Service, given: &[Server; 64]) -> Director
     requires { service.servers ≤ 64 }
-    ensures { result ≡ new_director service servers }
+    ensures { result ≡ new_director service given.now }
 {
     let n = service.servers;
-    let made = fresh_servers(servers, n);
-    let weights = weights_of(made, n);
-    let walk = start(service.scheduler, n);
+    let servers = fresh_servers(*given, n);
     Director {
         service,
-        servers: made,
-        weights,
-        walk,
+        servers,
+        weights: weights_of(servers, n),
+        walk: start(service.scheduler, n),
         clock: 0,
     }
 }
 
 // Sets up the service over the given servers, of which those past its last are not read. Refused, it gives the present state back.
+#[tactic(auto, unfolding(crate::specs::Setup::setup_of))]
 pub fn set_up(
     director: Director,
     service: Service,
@@ -38,13 +37,13 @@ pub fn set_up(
 ) -> Outcome
     ensures { result_of result row.new [] ≡ setup_of director service servers row.old }
 {
-    match judge_settings(service, servers, row) {
-        Verdict::Refused(why) => refuse(director, why),
-        Verdict::Accepted => {
+    match judge_settings(service, &servers, row) {
+        Err(why) => refuse(director, why),
+        Ok(()) => {
             clear_row(row);
             Outcome {
                 answer: Answer::Done,
-                director: new_director(service, servers),
+                director: new_director(service, &servers),
             }
         }
     }

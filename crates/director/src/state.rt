@@ -1,9 +1,7 @@
 // The director's state, and what a call answers.
 ghost use Rattle.std.specs.Prelude.{◌≡◌, ◌<◌, ◌≤◌};
 ghost use Rattle.servers.specs.Servers.{count_at};
-ghost use Rattle.director.specs.declared.state.Answer.{Answer};
-ghost use Rattle.director.specs.declared.state.Shift.{Shift};
-ghost use Rattle.director.specs.State.{refused_by, with_servers, with_one_less, with_one_more, is_same, shifted, CanShift, carried_by};
+ghost use Rattle.director.specs.State.{refused_by, with_one_less, with_one_more};
 
 use packet::read::Fault;
 use scheduler::walk::Walk;
@@ -97,26 +95,6 @@ pub struct Outcome {
     pub director: Director,
 }
 
-// What a packet changes of the state. It is said by itself because most packets change nothing, and the state is copied where it changes.
-#[derive(Clone, Copy)]
-pub enum Shift {
-    // nothing
-    Same,
-    // one connection less on a server
-    Less(ServerNo),
-    // one more on a server, and the walk after its pick
-    More(ServerNo, Walk),
-    // one less on the first and then one more on the second, and the walk after its pick
-    Moved(ServerNo, ServerNo, Walk),
-}
-
-// An answer, and what changes of the state.
-#[derive(Clone, Copy)]
-pub struct Carried {
-    pub answer: Answer,
-    pub shift: Shift,
-}
-
 // A refusal: the state as it is.
 pub fn refuse(director: Director, why: Refusal) -> Outcome
     ensures { result ≡ refused_by why director }
@@ -127,88 +105,19 @@ pub fn refuse(director: Director, why: Refusal) -> Outcome
     }
 }
 
-// A refusal of a packet: nothing changes.
-pub fn decline(why: Refusal) -> Carried
-    ensures answer { result.answer ≡ Answer.Refused why }
-    ensures shift { result.shift ≡ Shift.Same }
+// One connection less on server `no`, which has one.
+pub fn with_one_less(director: &mut Director, no: ServerNo)
+    requires { 1 ≤ count_at director.old.servers no.0 }
+    ensures { director.new ≡ with_one_less director.old no.0 }
 {
-    Carried {
-        answer: Answer::Refused(why),
-        shift: Shift::Same,
-    }
+    director.servers = lower(director.servers, no);
 }
 
-// The state with other servers, of the same weights, and another walk.
-pub fn with_servers(director: Director, servers: [Server; 64], walk: Walk) -> Director
-    ensures { result ≡ with_servers director servers walk }
+// One connection more on server `no`, and another walk.
+pub fn with_one_more(director: &mut Director, no: ServerNo, walk: Walk)
+    requires { count_at director.old.servers no.0 < 4294967295 }
+    ensures { director.new ≡ with_one_more director.old no.0 walk }
 {
-    let service = director.service;
-    let weights = director.weights;
-    Director {
-        service,
-        servers,
-        weights,
-        walk,
-        clock: director.clock,
-    }
-}
-
-// The state with one connection less on server `no`, which has one.
-pub fn with_one_less(director: Director, no: ServerNo) -> Director
-    requires { 1 ≤ count_at director.servers no.0 }
-    ensures { result ≡ with_one_less director no.0 }
-{
-    let servers = director.servers;
-    let walk = director.walk;
-    with_servers(director, lower(servers, no), walk)
-}
-
-// The state with one connection more on server `no`, and another walk.
-fn with_one_more(director: Director, no: ServerNo, walk: Walk) -> Director
-    requires { count_at director.servers no.0 < 4294967295 }
-    ensures { result ≡ with_one_more director no.0 walk }
-{
-    let servers = director.servers;
-    with_servers(director, raise(servers, no), walk)
-}
-
-// Whether nothing changes.
-pub fn is_same(shift: Shift) -> bool
-    ensures { result ≡ is_same shift }
-{
-    match shift {
-        Shift::Same => true,
-        Shift::Less(_) => false,
-        Shift::More(_, _) => false,
-        Shift::Moved(_, _, _) => false,
-    }
-}
-
-// The state with what changes.
-pub fn apply_shift(director: Director, shift: Shift) -> Director
-    requires { CanShift director shift }
-    ensures { result ≡ shifted director shift }
-{
-    match shift {
-        Shift::Same => director,
-        Shift::Less(no) => with_one_less(director, no),
-        Shift::More(no, walk) => with_one_more(director, no, walk),
-        Shift::Moved(from, to, walk) => with_one_more(with_one_less(director, from), to, walk),
-    }
-}
-
-// An answer with the state after it beside it.
-pub fn outcome_of(director: Director, carried: Carried) -> Outcome
-    requires { CanShift director carried.shift }
-    ensures { result ≡ carried_by director carried }
-{
-    let answer = carried.answer;
-    let shift = carried.shift;
-    if is_same(shift) {
-        return Outcome { answer, director };
-    }
-    Outcome {
-        answer,
-        director: apply_shift(director, shift),
-    }
+    director.servers = raise(director.servers, no);
+    director.walk = walk;
 }

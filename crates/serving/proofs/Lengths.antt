@@ -1,26 +1,24 @@
 -- A packet call leaves as many bytes as it was handed. Assumes nothing.
 use lib.ListN.{get_or}
 use Rattle.servers.specs.Servers.{server_at}
-use Rattle.table.specs.Slots.{free_slot}
-use Rattle.std.proofs.Common.{◌≡◌, ℕ, Bool, true, false, ltb, List, length, refl, ⊎_elim}
+use Rattle.table.specs.Slots.{free_slot, slots}
+use Rattle.std.proofs.Common.{◌≡◌, ℕ, Bool, true, false, ltb, List, length, refl, ⊎_elim, Ok, Err}
 use Rattle.lists.proofs.Cases.{truth}
 use Rattle.packet.specs.declared.redirect.Side.{Side}
 use Rattle.packet.specs.Redirect.{Redirectable}
 use Rattle.packet.proofs.Redirected.{redirected-length}
 use Rattle.servers.specs.declared.Server.{Server}
 use Rattle.table.specs.declared.slot.Slot.{Slot}
-use Rattle.table.specs.Slots.{slots}
 use Rattle.director.specs.declared.state.Service.{Service}
 use Rattle.director.specs.declared.state.Director.{Director}
 use Rattle.director.specs.declared.state.Way.{Way}
 use Rattle.director.specs.declared.segment.Sender.{Sender}
 use Rattle.director.specs.declared.segment.Segment.{Segment}
-use Rattle.director.specs.declared.segment.Seen.{Seen}
+use Rattle.director.specs.Segment.{Read, segment_read}
 use Rattle.director.specs.declared.decide.Decision.{Decision}
 use Rattle.director.specs.State.{Lent, lent, with_one_less, with_one_more}
 use Rattle.director.specs.Judge.{sound_of}
 use Rattle.director.specs.Tick.{settled, settled_lent}
-use Rattle.director.specs.Segment.{segment_read}
 use Rattle.director.specs.Decide.{decided}
 use Rattle.director.specs.Carry.{sent_on, carried_out}
 use Rattle.director.specs.Packets.{routed, on_clock, on_seen, packet_held, packet_of}
@@ -52,9 +50,9 @@ module _ (d : Director) (row p : List ℕ) (now : ℕ) where
       let y = settled_lent d x now in
       carried-length d' y m (decided d' y.table m) can
 
-  by_seen : (way : Way) (s : Seen) → segment_read way d.service d.servers p ≡ s → length (on_seen d x now s).lent.packet ≡ length p
-  by_seen way (Seen.Refused why) e = refl
-  by_seen way (Seen.Segment m) e = by_clock m (segment_redirectable d p m way e) (ltb now d.clock)
+  by_seen : (way : Way) (s : Read) → segment_read way d.service d.servers p ≡ s → length (on_seen d x now s).lent.packet ≡ length p
+  by_seen way (Err why) e = refl
+  by_seen way (Ok m) e = by_clock m (segment_redirectable d p m way e) (ltb now d.clock)
 
   pub packet_length : (way : Way) → length (packet_of way d row p now).lent.packet ≡ length p
   unfolding packet_of packet_held

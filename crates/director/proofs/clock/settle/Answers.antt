@@ -5,11 +5,6 @@ use Rattle.director.proofs.clock.settle.Goals as goal
 
 pub expire-expired-requires : goal.expire-expired-requires
 expire-expired-requires c =
-    let d = c.args.director in
+    let d = c.args.director.now in
     let s = sound_parts _ _ c.requires.0 in
     (s.settings.most, later_table d.service.protocol d.service.servers d.clock c.args.row.now d.servers s.table c.args.clock c.requires.1)
-
-pub returns : goal.returns
-returns c =
-    let e = c.expire-expired.ensures in
-    record { row = e.row; director = simp e.servers; removed = e.removed }

@@ -21,18 +21,18 @@ by_weights : (d ended : Director) (l : List Slot) (k j : SlotNo) (i : ServerNo)
     → on_weights ended (Decision.Renew k j) ≡ on_renewal d l k
 by_weights d ended l k j i server less room = rw (less, server, ← room)
 
-pub with_one_less-ended-requires : goal.with_one_less-ended-requires
-with_one_less-ended-requires c = rw c.server_no_at.ensures c.requires.counted
+pub with_one_less-requires : goal.with_one_less-requires
+with_one_less-requires c = rw c.server_no_at.ensures c.requires.counted
 
 pub returns-then-none_weighs : goal.returns-then-none_weighs
 returns-then-none_weighs c =
     rw (sym c.none_weighs.ensures ∙ c.if-none_weighs.true) at
-    (by_weights c.args.director _ (slots c.args.row.now) c.args.k _ _
-    c.server_no_at.ensures c.with_one_less-ended.ensures c.find_free_with-free.ensures)
+    (by_weights c.args.director.now _ (slots c.args.row.now) c.args.k _ _
+    c.server_no_at.ensures c.with_one_less.ensures c.find_free_with-free.ensures)
 
 pub returns : goal.returns
 returns c =
-    let ended = c.with_one_less-ended.result in
+    let ended = c.with_one_less.new.director in
     on_pick ended (Decision.Renew c.args.k c.find_free_with-free.result) _ (sym c.none_weighs.ensures ∙ c.if-none_weighs.false) c.next_pick.ensures
-    ∙ by_weights c.args.director ended (slots c.args.row.now) c.args.k _ _
-    c.server_no_at.ensures c.with_one_less-ended.ensures c.find_free_with-free.ensures
+    ∙ by_weights c.args.director.now ended (slots c.args.row.now) c.args.k _ _
+    c.server_no_at.ensures c.with_one_less.ensures c.find_free_with-free.ensures
