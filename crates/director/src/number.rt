@@ -6,22 +6,24 @@ use crate::state::Refusal;
 use packet::read::fault_number;
 
 // The number given on a refusal.
-pub fn refusal_number(why: Refusal) -> u8
-    ensures { result ≡ refusal_number why }
-{
-    match why {
-        Refusal::Size => 1,
-        Refusal::Service => 2,
-        Refusal::ServerUnset => 3,
-        Refusal::ServerRepeated => 4,
-        Refusal::NoServer => 5,
-        Refusal::Packet(fault) => fault_number(fault),
-        Refusal::OtherEndpoint => 10,
-        Refusal::EarlierClock => 11,
-        Refusal::NoConnection => 12,
-        Refusal::TableFull => 13,
-        Refusal::NoWeight => 14,
-        Refusal::Unsound => 15,
+impl From<Refusal> for u8 {
+    ghost from_gives = { λ why number. number ≡ refusal_number why };
+
+    fn from(why: Refusal) -> u8 {
+        match why {
+            Refusal::Size => 1,
+            Refusal::Service => 2,
+            Refusal::ServerUnset => 3,
+            Refusal::ServerRepeated => 4,
+            Refusal::NoServer => 5,
+            Refusal::Packet(fault) => fault_number(fault),
+            Refusal::OtherEndpoint => 10,
+            Refusal::EarlierClock => 11,
+            Refusal::NoConnection => 12,
+            Refusal::TableFull => 13,
+            Refusal::NoWeight => 14,
+            Refusal::Unsound => 15,
+        }
     }
 }
 
@@ -29,18 +31,8 @@ pub fn refusal_number(why: Refusal) -> u8
 pub fn keeps_clock(why: Refusal) -> bool
     ensures { result ≡ keeps_clock why }
 {
-    match why {
-        Refusal::Size => false,
-        Refusal::Service => false,
-        Refusal::ServerUnset => false,
-        Refusal::ServerRepeated => false,
-        Refusal::NoServer => false,
-        Refusal::Packet(_) => false,
-        Refusal::OtherEndpoint => false,
-        Refusal::EarlierClock => false,
-        Refusal::NoConnection => true,
-        Refusal::TableFull => true,
-        Refusal::NoWeight => true,
-        Refusal::Unsound => false,
-    }
+    matches!(
+        why,
+        Refusal::NoConnection | Refusal::TableFull | Refusal::NoWeight
+    )
 }

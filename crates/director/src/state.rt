@@ -35,14 +35,14 @@ pub struct Director {
     pub service: Service,
 }
 
-// Which way a packet goes: from a client, or from a server.
+// Which way a packet goes: from a client, or from a server. The numbers are those that a program is told.
 #[derive(Clone, Copy)]
 pub enum Way {
-    Inbound,
-    Outbound,
+    Inbound = 0,
+    Outbound = 1,
 }
 
-// Why a call is refused; `refusal_number` gives its number (SCOPE section 4).
+// Why a call is refused; `u8::from` gives its number (SCOPE section 4).
 #[derive(Clone, Copy)]
 pub enum Refusal {
     // 1: number of servers or length of the row
@@ -71,12 +71,12 @@ pub enum Refusal {
     Unsound,
 }
 
-// What became of an accepted packet's connection.
+// What became of an accepted packet's connection. The numbers are those that a program is told.
 #[derive(Clone, Copy)]
 pub enum Change {
-    Opened,
-    Kept,
-    Ended,
+    Opened = 1,
+    Kept = 2,
+    Ended = 3,
 }
 
 // What a call answers: a setup or weight call `Done`, a count or tick call a number, a packet call the server and the change.

@@ -2,8 +2,9 @@
 use Rattle.std.proofs.Common.{◌≡◌, ℕ, ◌+◌, ◌-◌, ◌*◌, true, false, List, [], ◌++◌, take, drop, arith}
 use Rattle.lists.proofs.Folds.{fold_none}
 use Rattle.director.specs.declared.state.Director.{Director}
+use Rattle.director.specs.declared.state.Answer.{Answer}
 use Rattle.director.specs.declared.state.Outcome.{Outcome}
-use Rattle.director.specs.State.{changes_nothing, is_accepted, result_of}
+use Rattle.director.specs.State.{changes_nothing, is_accepted, left_with, result_of}
 use Rattle.director.specs.Tick.{tick_of}
 use Rattle.director.proofs.Keeping.{tick-leaves}
 use Rattle.serving.specs.declared.told.Told.{Told}
@@ -15,15 +16,15 @@ use Rattle.serving.proofs.Standings.{nothing_accepted}
 less_start : (at n : ℕ) → (at + n) - at ≡ n
 less_start at n = omega arith
 
-pub burst-step : (d : Director) (row packets records : List ℕ) (k n : ℕ) (told : Told) (o : Outcome) (row' part records' : List ℕ)
+pub burst-step : (d : Director) (row packets records : List ℕ) (k n : ℕ) (told : Told) (a : Answer) (d' : Director) (row' part records' : List ℕ)
     → n ≡ length_of records k
-    → result_of o row' part ≡ taken_of d row (take ((2048 * k + n) - 2048 * k) (drop (2048 * k) packets))
-    → told ≡ told_by o.answer
+    → left_with a d' row' part ≡ taken_of d row (take ((2048 * k + n) - 2048 * k) (drop (2048 * k) packets))
+    → told ≡ told_by a
     → records' ≡ recorded records k told
-    → bursting o.director row' (take (2048 * k) packets ++ (part ++ drop ((2048 * k + n) - 2048 * k) (drop (2048 * k) packets))) records'
+    → bursting d' row' (take (2048 * k) packets ++ (part ++ drop ((2048 * k + n) - 2048 * k) (drop (2048 * k) packets))) records'
     ≡ burst_step (bursting d row packets records) k
 unfolding burst_step
-burst-step d row packets records k n told o row' part records' len e numbers wrote =
+burst-step d row packets records k n told a d' row' part records' len e numbers wrote =
     rw (wrote, numbers, ← len, ← (rw (less_start (2048 * k) n) at e), less_start (2048 * k) n)
 
 -- the burst call, by its tick

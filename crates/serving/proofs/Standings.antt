@@ -5,7 +5,7 @@ use Rattle.checksum.specs.Ones.{Bytes}
 use Rattle.director.specs.declared.state.Director.{Director}
 use Rattle.director.specs.declared.state.Answer.{Answer}
 use Rattle.director.specs.declared.state.Outcome.{Outcome}
-use Rattle.director.specs.State.{changes_nothing, is_accepted, result_of}
+use Rattle.director.specs.State.{changes_nothing, is_accepted, left_with, result_of}
 use Rattle.director.specs.Tick.{tick_of}
 use Rattle.director.specs.Current.{Current}
 use Rattle.director.proofs.Keeping.{tick-leaves}
@@ -47,19 +47,19 @@ served_then s t u n k m a b e =
     }
 
 -- one packet, from what its call says of it
-pub served_once : (d : Director) (row counters records p : List ℕ) (k : ℕ) (before : List ℕ) (o : Outcome) (row' counters' records' p' : List ℕ) → Bytes p
-    → result_of o row' p' ≡ taken_of d row p
-    → counters' ≡ counted counters (way_of d.service.address p) o.answer
-    → records' ≡ traced records k (length p) (way_of d.service.address p) (told_by o.answer)
-    → Served (standing d row counters records k before) (standing o.director row' counters' records' (k + 1) (before ++ p')) 1
+pub served_once : (d : Director) (row counters records p : List ℕ) (k : ℕ) (before : List ℕ) (a : Answer) (d' : Director) (row' counters' records' p' : List ℕ) → Bytes p
+    → left_with a d' row' p' ≡ taken_of d row p
+    → counters' ≡ counted counters (way_of d.service.address p) a
+    → records' ≡ traced records k (length p) (way_of d.service.address p) (told_by a)
+    → Served (standing d row counters records k before) (standing d' row' counters' records' (k + 1) (before ++ p')) 1
 unfolding served_by
-served_once d row counters records p k before o row' counters' records' p' bytes e f g =
+served_once d row counters records p k before a d' row' counters' records' p' bytes e f g =
     record { packets = p ∷ []; bytes = (bytes, tt); number = refl; leads = rw (← e, f, g) }
 
 -- one packet leaves a current state
-pub taken_current : (d : Director) (row p : List ℕ) (o : Outcome) (row' p' : List ℕ) → Bytes p → Current d row → result_of o row' p' ≡ taken_of d row p
-    → Current o.director row'
-taken_current d row p o row' p' bytes c e = (rw (← e) at (packet_stays d row c (way_of d.service.address p) p bytes)).0
+pub taken_current : (d : Director) (row p : List ℕ) (a : Answer) (d' : Director) (row' p' : List ℕ) → Bytes p → Current d row → left_with a d' row' p' ≡ taken_of d row p
+    → Current d' row'
+taken_current d row p a d' row' p' bytes c e = (rw (← e) at (packet_stays d row c (way_of d.service.address p) p bytes)).0
 
 -- and so do many
 current_by : (s : Standing) (ps : List (List ℕ)) → AllBytes ps → Current s.director s.row → let t = served_by s ps in Current t.director t.row

@@ -1,98 +1,73 @@
 // Packets in one lent buffer, taken one after another after a tick: the fold of the single calls.
 ghost use Rattle.std.specs.Prelude.{◌≡◌, ◌+◌, ◌*◌, ◌<◌, ◌≤◌, length};
-ghost use Rattle.director.specs.State.{CanShift, shifted, carried_by, result_of};
+ghost use Rattle.director.specs.State.{left_with};
 ghost use Rattle.director.specs.Current.{Current};
 ghost use Rattle.serving.specs.Way.{taken_of};
 ghost use Rattle.serving.specs.Burst.{packets_in, length_of, recorded, bursting, burst_step, burst_of, burst_result, burst_call_of};
 
-use crate::told::{Told, is_accepted, told_by, write_told};
+use crate::told::{Told, is_accepted, write_told};
 use crate::way::way_of;
 use director::packets::take_current;
-use director::state::{Carried, Director, Outcome, Shift, apply_shift, is_same};
+use director::state::{Answer, Director, Outcome};
 use director::tick::tick;
 
+// The bytes of a packet's place, and the words of its record.
+const PLACE: usize = 2048;
+
+const RECORD: usize = 4;
+
 // One packet of a current state, by the call that it is given to.
-fn take_one(director: Director, row: &mut [u32], packet: &mut [u8]) -> Carried
-    requires { Current director row.old }
-    ensures can { CanShift director result.shift }
-    ensures current { Current (shifted director result.shift) row.new }
-    ensures taken { result_of (carried_by director result) row.new packet.new ≡ taken_of director row.old packet.old }
+fn take_one(director: &mut Director, row: &mut [u32], packet: &mut [u8]) -> Answer
+    requires { Current director.old row.old }
+    ensures current { Current director.new row.new }
+    ensures taken { left_with result director.new row.new packet.new ≡ taken_of director.old row.old packet.old }
 {
-    let service = director.service;
-    take_current(way_of(service.address, packet), director, row, packet)
+    let way = way_of(director.service.address, packet);
+    take_current(way, director, row, packet)
 }
 
 // The length of packet `k`.
 fn length_of(records: &[u32], k: usize) -> usize
     requires { 4 * k + 3 < length records.now }
-    ensures value { result ≡ length_of records.now k }
-    ensures bound { result ≤ 2048 }
+    ensures { result ≡ length_of records.now k }
 {
-    let given = records[4 * k];
-    if given < 2048 { given as usize } else { 2048 }
+    PLACE.min(records[RECORD * k] as usize)
 }
 
-// Writes what packet `k` was answered.
-fn write_record(records: &mut [u32], k: usize, told: Told)
-    requires { 4 * k + 3 < length records.old }
-    ensures { records.new ≡ recorded records.old k told }
-{
-    write_told(records, 4 * k, told);
-}
-
-// Takes packet `k`.
+// Takes packet `k`, and writes what it was answered.
 fn burst_one(
-    director: Director,
+    director: &mut Director,
     row: &mut [u32],
     packets: &mut [u8],
     records: &mut [u32],
     k: usize,
-) -> Shift
-    requires { Current director row.old × (4 * k + 3 < length records.old) × (2048 * k + 2048 ≤ length packets.old) }
-    ensures can { CanShift director result }
-    ensures current { Current (shifted director result) row.new }
-    ensures taken { bursting (shifted director result) row.new packets.new records.new ≡ burst_step (bursting director row.old packets.old records.old) k }
+)
+    requires { Current director.old row.old × (4 * k + 3 < length records.old) × (2048 * k + 2048 ≤ length packets.old) }
+    ensures current { Current director.new row.new }
+    ensures taken { bursting director.new row.new packets.new records.new ≡ burst_step (bursting director.old row.old packets.old records.old) k }
 {
-    let n = length_of(records, k);
-    let at = 2048 * k;
-    let end = at + n;
-    let carried = take_one(director, row, &mut packets[at..end]);
-    let answer = carried.answer;
-    write_record(records, k, told_by(answer));
-    carried.shift
+    let at = PLACE * k;
+    let end = at + length_of(records, k);
+    let answer = take_one(director, row, &mut packets[at..end]);
+    write_told(records, RECORD * k, Told::from(answer));
 }
 
 // How many packets there are.
 fn packets_in(packets: &[u8], records: &[u32]) -> usize
     ensures { result ≡ packets_in packets.now records.now }
 {
-    let places = packets.len() / 2048;
-    let told = records.len() / 4;
-    if places < told { places } else { told }
+    (packets.len() / PLACE).min(records.len() / RECORD)
 }
 
 // Takes all packets.
-fn burst_current(
-    director: Director,
-    row: &mut [u32],
-    packets: &mut [u8],
-    records: &mut [u32],
-) -> Director
-    requires { Current director row.old }
-    ensures { bursting result row.new packets.new records.new ≡ burst_of (bursting director row.old packets.old records.old) (packets_in packets.old records.old) }
+fn burst_current(director: &mut Director, row: &mut [u32], packets: &mut [u8], records: &mut [u32])
+    requires { Current director.old row.old }
+    ensures { bursting director.new row.new packets.new records.new ≡ burst_of (bursting director.old row.old packets.old records.old) (packets_in packets.old records.old) }
 {
     let m = packets_in(packets, records);
-    let mut present = director;
-    let mut k = 0;
-    while k < m {
-        let shift = burst_one(present, row, packets, records, k);
-        if !is_same(shift) {
-            let after = apply_shift(present, shift);
-            present = after;
-        }
-        k += 1;
+    for k in 0..m {
+        burst_one(director, row, packets, records, k);
     }
-    present
 }
 
 // Moves the clock on, as a tick does, and takes the packets at that clock. Where the tick is refused nothing is changed.
@@ -105,17 +80,9 @@ pub fn burst(
 ) -> Outcome
     ensures { burst_result result row.new packets.new records.new ≡ burst_call_of director row.old packets.old records.old clock }
 {
-    let ticked = tick(director, row, clock);
-    let answer = ticked.answer;
-    let present = ticked.director;
-    if !is_accepted(answer) {
-        return Outcome {
-            answer,
-            director: present,
-        };
+    let mut ticked = tick(director, row, clock);
+    if is_accepted(ticked.answer) {
+        burst_current(&mut ticked.director, row, packets, records);
     }
-    Outcome {
-        answer,
-        director: burst_current(present, row, packets, records),
-    }
+    ticked
 }

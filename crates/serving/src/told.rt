@@ -1,10 +1,9 @@
 // An answer in numbers (SCOPE section 4).
 ghost use Rattle.std.specs.Prelude.{◌≡◌, ◌+◌, ◌<◌, length};
 ghost use Rattle.director.specs.State.{is_accepted};
-ghost use Rattle.serving.specs.Told.{change_number, told_by, told_behind};
+ghost use Rattle.serving.specs.Told.{told_by, told_behind};
 
-use director::number::refusal_number;
-use director::state::{Answer, Change};
+use director::state::Answer;
 
 // What an answer tells.
 #[derive(Clone, Copy)]
@@ -17,42 +16,31 @@ pub struct Told {
     pub change: u32,
 }
 
-// The number of a connection's change.
-fn change_number(change: Change) -> u32
-    ensures { result ≡ change_number change }
-{
-    match change {
-        Change::Opened => 1,
-        Change::Kept => 2,
-        Change::Ended => 3,
-    }
-}
+// What an accepted setup or weight call tells.
+const DONE: Told = Told {
+    refusal: 0,
+    number: 0,
+    change: 0,
+};
 
 // An answer in numbers.
-pub fn told_by(answer: Answer) -> Told
-    ensures { result ≡ told_by answer }
-{
-    match answer {
-        Answer::Done => Told {
-            refusal: 0,
-            number: 0,
-            change: 0,
-        },
-        Answer::Number(number) => Told {
-            refusal: 0,
-            number,
-            change: 0,
-        },
-        Answer::Passed(no, change) => Told {
-            refusal: 0,
-            number: no.0,
-            change: change_number(change),
-        },
-        Answer::Refused(why) => Told {
-            refusal: refusal_number(why) as u32,
-            number: 0,
-            change: 0,
-        },
+impl From<Answer> for Told {
+    ghost from_gives = { λ answer told. told ≡ told_by answer };
+
+    fn from(answer: Answer) -> Told {
+        match answer {
+            Answer::Done => DONE,
+            Answer::Number(number) => Told { number, ..DONE },
+            Answer::Passed(no, change) => Told {
+                number: no.0,
+                change: change as u32,
+                ..DONE
+            },
+            Answer::Refused(why) => Told {
+                refusal: u32::from(u8::from(why)),
+                ..DONE
+            },
+        }
     }
 }
 
@@ -60,12 +48,7 @@ pub fn told_by(answer: Answer) -> Told
 pub fn is_accepted(answer: Answer) -> bool
     ensures { result ≡ is_accepted answer }
 {
-    match answer {
-        Answer::Done => true,
-        Answer::Number(_) => true,
-        Answer::Passed(_, _) => true,
-        Answer::Refused(_) => false,
-    }
+    !matches!(answer, Answer::Refused(_))
 }
 
 // Writes what an answer tells into the three words behind place `at`.

@@ -1,19 +1,9 @@
 // What a serve tells of each packet that it has taken.
 ghost use Rattle.std.specs.Prelude.{◌≡◌, ◌+◌, ◌*◌, ◌<◌, length};
-ghost use Rattle.serving.specs.Trace.{way_number, traced, packets_traced};
+ghost use Rattle.serving.specs.Trace.{traced, packets_traced};
 
 use crate::told::{Told, write_told};
 use director::state::Way;
-
-// A way's number.
-fn way_number(way: Way) -> u32
-    ensures { result ≡ way_number way }
-{
-    match way {
-        Way::Inbound => 0,
-        Way::Outbound => 1,
-    }
-}
 
 // Writes the record of packet `k`, of `n` bytes.
 pub fn write_trace(records: &mut [u32], k: usize, n: usize, way: Way, told: Told)
@@ -22,7 +12,7 @@ pub fn write_trace(records: &mut [u32], k: usize, n: usize, way: Way, told: Told
 {
     let at = 5 * k;
     records[at] = (n % 4294967296) as u32;
-    records[at + 1] = way_number(way);
+    records[at + 1] = way as u32;
     write_told(records, at + 1, told);
 }
 
@@ -30,10 +20,5 @@ pub fn write_trace(records: &mut [u32], k: usize, n: usize, way: Way, told: Told
 pub fn packets_traced(records: &[u32], most: u32) -> u32
     ensures { result ≡ packets_traced records.now most }
 {
-    let room = records.len() / 5;
-    if room < most as usize {
-        room as u32
-    } else {
-        most
-    }
+    (records.len() / 5).min(most as usize) as u32
 }

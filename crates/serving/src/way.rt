@@ -9,11 +9,9 @@ use packet::bytes::address_at;
 pub fn way_of(address: u32, packet: &[u8]) -> Way
     ensures { result ≡ way_of address packet.now }
 {
-    if packet.len() < 20 {
-        return Way::Inbound;
+    if packet.len() < 20 || address_at(packet, 16) == address {
+        Way::Inbound
+    } else {
+        Way::Outbound
     }
-    if address_at(packet, 16) == address {
-        return Way::Inbound;
-    }
-    Way::Outbound
 }
