@@ -12,23 +12,25 @@ pub enum Side {
     Destination,
 }
 
-// Where a side's address stands in the IP header.
-fn address_place(side: Side) -> usize
-    ensures { result ≡ address_place side }
-{
-    match side {
-        Side::Source => 12,
-        Side::Destination => 16,
+impl Side {
+    // Where the side's address stands in the IP header.
+    fn address_place(self) -> usize
+        ensures { result ≡ address_place self }
+    {
+        match self {
+            Side::Source => 12,
+            Side::Destination => 16,
+        }
     }
-}
 
-// Where a side's port stands in the transport part.
-fn port_place(side: Side) -> usize
-    ensures { result ≡ port_place side }
-{
-    match side {
-        Side::Source => 0,
-        Side::Destination => 2,
+    // Where the side's port stands in the transport part.
+    fn port_place(self) -> usize
+        ensures { result ≡ port_place self }
+    {
+        match self {
+            Side::Source => 0,
+            Side::Destination => 2,
+        }
     }
 }
 
@@ -46,13 +48,11 @@ fn sum_place(protocol: u8) -> usize
 fn udp_written(sum: u16, edited: u16) -> u16
     ensures { result ≡ udp_written sum edited }
 {
-    if sum == 0 {
-        return 0;
+    match (sum, edited) {
+        (0, _) => 0,
+        (_, 0) => 65535,
+        _ => edited,
     }
-    if edited == 0 {
-        return 65535;
-    }
-    edited
 }
 
 // The transport checksum to write for an edited one.
@@ -79,8 +79,7 @@ fn edit_header(p: &mut [u8], at: usize, new: u32)
     ensures { p.new ≡ header_edited at new p.old }
 {
     let old = address_at(p, at);
-    let sum = edit_address(word_at(p, 10), old, new);
-    set_word(p, 10, sum);
+    set_word(p, 10, edit_address(word_at(p, 10), old, new));
     set_address(p, at, new);
 }
 
@@ -101,11 +100,16 @@ pub fn redirect_packet(p: &mut [u8], protocol: u8, side: Side, address: u32, por
     requires { Redirectable protocol p.old }
     ensures { p.new ≡ redirected protocol side address port p.old }
 {
-    let header = header_length(p);
-    let total = length_at(p, 2);
-    let at = address_place(side);
-    let port_at = port_place(side);
+    let payload = header_length(p)..length_at(p, 2);
+    let at = side.address_place();
     let old = address_at(p, at);
     edit_header(p, at, address);
-    edit_transport(&mut p[header..total], protocol, port_at, old, address, port);
+    edit_transport(
+        &mut p[payload],
+        protocol,
+        side.port_place(),
+        old,
+        address,
+        port,
+    );
 }
