@@ -68,6 +68,7 @@ pub struct Packet {
 }
 
 // Refusal 6.
+#[tactic(auto, unfolding(crate::specs::Reading::broken))]
 fn is_broken(p: &[u8]) -> bool
     ensures { result ≡ broken p.now }
 {
@@ -87,6 +88,7 @@ fn is_header_valid(p: &[u8]) -> bool
 }
 
 // Refusal 7.
+#[tactic(auto, unfolding(crate::specs::Reading::fragment))]
 fn is_fragment(p: &[u8]) -> bool
     requires { Whole p.now }
     ensures { result ≡ fragment p.now }
@@ -110,6 +112,7 @@ fn header_of(p: &[u8]) -> Header
 }
 
 // The header of `p`, whatever it carries, or the first of refusals 6, 20 and 7 that applies.
+#[tactic(auto, using(crate::proofs::Whole::whole))]
 pub fn read_header(p: &[u8]) -> Result<Header, Fault>
     ensures { result ≡ read_header p.now }
 {
@@ -138,6 +141,7 @@ fn flags_of(byte: u8) -> Flags
 }
 
 // A TCP segment, or refusal 9.
+#[tactic(auto, unfolding(crate::specs::Reading::tcp_malformed))]
 fn read_tcp(t: &[u8]) -> Result<TransportHeader, Fault>
     ensures { result ≡ read_tcp t.now }
 {
@@ -152,6 +156,7 @@ fn read_tcp(t: &[u8]) -> Result<TransportHeader, Fault>
 }
 
 // A UDP datagram, or refusal 9.
+#[tactic(auto, unfolding(crate::specs::Reading::udp_malformed))]
 fn read_udp(t: &[u8]) -> Result<TransportHeader, Fault>
     ensures { result ≡ read_udp t.now }
 {
@@ -191,6 +196,7 @@ fn read_payload(protocol: u8, header: Header, p: &[u8]) -> Result<Packet, Fault>
 }
 
 // The packet in `p` for a service of `protocol`, or the first of refusals 6, 20, 7, 8, 9 that applies.
+#[tactic(auto, using(crate::proofs::Taken::lengths_read), unfolding(crate::specs::Reading::read_packet))]
 pub fn read_packet(protocol: u8, p: &[u8]) -> Result<Packet, Fault>
     ensures { result ≡ read_packet protocol p.now }
 {

@@ -56,6 +56,7 @@ fn udp_written(sum: u16, edited: u16) -> u16
 }
 
 // The transport checksum to write for an edited one.
+#[tactic(auto, unfolding(crate::specs::Redirect::sum_written))]
 fn sum_written(protocol: u8, sum: u16, edited: u16) -> u16
     ensures { result ≡ sum_written protocol sum edited }
 {
@@ -74,6 +75,7 @@ fn edit_address(sum: u16, old: u32, new: u32) -> u16
 }
 
 // Sets the address at `at`, and edits the header checksum for it.
+#[tactic(auto, unfolding(crate::specs::Redirect::header_edited))]
 fn edit_header(p: &mut [u8], at: usize, new: u32)
     requires { (20 ≤ length p.old) × (at + 3 < length p.old) }
     ensures { p.new ≡ header_edited at new p.old }
@@ -84,6 +86,7 @@ fn edit_header(p: &mut [u8], at: usize, new: u32)
 }
 
 // Sets the port at `at` of a transport part, and edits its checksum for that and for the address.
+#[tactic(auto, unfolding(crate::specs::Redirect::transport_edited))]
 fn edit_transport(t: &mut [u8], protocol: u8, at: usize, old: u32, new: u32, port: u16)
     requires { (at + 1 < length t.old) × (sum_place protocol + 1 < length t.old) }
     ensures { t.new ≡ transport_edited protocol at old new port t.old }
@@ -96,6 +99,7 @@ fn edit_transport(t: &mut [u8], protocol: u8, at: usize, old: u32, new: u32, por
 }
 
 // Sets one side's address and port of a packet that was taken, and edits both checksums.
+#[tactic(auto, unfolding(crate::specs::Redirect::redirected))]
 pub fn redirect_packet(p: &mut [u8], protocol: u8, side: Side, address: u32, port: u16)
     requires { Redirectable protocol p.old }
     ensures { p.new ≡ redirected protocol side address port p.old }
