@@ -1,12 +1,11 @@
 -- The law of a sum by groups of specs/Laws.antt. A group is its two words and 65535 times the first, and a fold takes off 65535 times its carry.
 use mathlib.Core.Path.{◌≡◌, refl, sym, ap, ◌∙◌}
-use mathlib.Core.List.{List, [], ◌∷◌}
+use mathlib.Core.List.{List, [], ◌∷◌, ◌++◌}
 use Prim.Native.Nat.{ℕ, zero, suc, ◌+◌, ◌-◌, ◌*◌, ◌^◌, ◌/◌, ◌%◌, ◌≤◌, ◌<◌}
 use native.Mathlib.Nat.{suc-add, add-suc}
-use native.Mathlib.Numerals.{add-one, add-two, add-three, add-four}
 use native.Mathlib.Omega.{arith}
 use lib.ListN.{length, take, drop}
-use lib.Seq.{drop-cons, length-take-le}
+use lib.Seq.{length-take-le}
 use Rattle.lists.proofs.Below.{below_tail, below_take}
 use Rattle.checksum.specs.Ones.{Bytes, carried, words_of, sum_from, ones_sum, groups_of, group_at, WholeGroups, total, Foldable, folded}
 use Rattle.checksum.specs.Laws.{GroupLaw}
@@ -69,28 +68,25 @@ grouping b all whole =
     ∙ reduced_more (total (words_of b)) both.firsts (λ e. omega (arith, both.within))
     ∙ sym (ones_sum_reduced (words_of b) (words_fit b all))
 
--- among whole groups a place at which some are left has four bytes
-pub group_room : (n i : ℕ) → WholeGroups n → i % 4 ≡ 0 → i < n → i + 3 < n
-group_room n i whole four left = omega (arith, whole.0)
+-- four bytes and then others: the group of the four, and the groups of the others
+groups_front : (x r : List ℕ) → length x ≡ 4 → groups_of (x ++ r) ≡ group_at x 0 ∷ groups_of r
+groups_front [] r h = absurd (omega arith)
+groups_front (a ∷ []) r h = absurd (omega arith)
+groups_front (a ∷ b ∷ []) r h = absurd (omega arith)
+groups_front (a ∷ b ∷ c ∷ []) r h = absurd (omega arith)
+groups_front (a ∷ b ∷ c ∷ d ∷ []) r h = refl
+groups_front (a ∷ b ∷ c ∷ d ∷ e ∷ x) r h = absurd (omega arith)
 
--- four bytes or more from a place on: the group there, and the groups after it
-groups_more : (b : List ℕ) (i : ℕ) → i + 3 < length b → groups_of (drop i b) ≡ group_at b i ∷ groups_of (drop (i + 4) b)
-groups_more b i room =
-    rw (
-      drop-cons b i 0 (omega arith),
-      drop-cons b (suc i) 0 (omega arith),
-      drop-cons b (suc (suc i)) 0 (omega arith),
-      drop-cons b (suc (suc (suc i))) 0 (omega arith),
-      add-one,
-      add-two,
-      add-three,
-      add-four,
-    )
+pub groups_next : (x r r' : List ℕ) → r ≡ x ++ r' → length x ≡ 4 → total (groups_of r) ≡ group_at x 0 + total (groups_of r')
+groups_next x r r' e h = rw (e, groups_front x r' h) refl
 
--- so it is added to the sum of those before it
-pub groups_next : (b : List ℕ) (i sum : ℕ) → i + 3 < length b → sum + total (groups_of (drop i b)) ≡ total (groups_of b)
-    → sum + group_at b i + total (groups_of (drop (i + 4) b)) ≡ total (groups_of b)
-groups_next b i sum room e = omega (arith, rw (groups_more b i room) at e)
+-- fewer than four bytes make no group
+pub groups_none : (r : List ℕ) → length r < 4 → groups_of r ≡ []
+groups_none [] h = refl
+groups_none (a ∷ []) h = refl
+groups_none (a ∷ b ∷ []) h = refl
+groups_none (a ∷ b ∷ c ∷ []) h = refl
+groups_none (a ∷ b ∷ c ∷ d ∷ r) h = absurd (omega arith)
 
 -- words added to a sum: those of the bytes before an even place, and then those after it
 cut_sum : (k s : ℕ) (b : List ℕ) → sum_from (sum_from s (words_of (take (k + k) b))) (words_of (drop (k + k) b)) ≡ sum_from s (words_of b)

@@ -1,32 +1,41 @@
 -- How the words of a list of bytes are read off its front.
 use mathlib.Core.Path.{◌≡◌, refl, ap}
-use mathlib.Core.List.{List, [], ◌∷◌}
-use Prim.Native.Nat.{ℕ, zero, suc, ◌+◌, ◌*◌, ◌≤◌, ◌<◌}
+use mathlib.Core.List.{List, [], ◌∷◌, ◌++◌}
+use Prim.Native.Nat.{ℕ, zero, suc, ◌+◌, ◌-◌, ◌*◌, ◌%◌, ◌≤◌, ◌<◌}
 use native.Mathlib.Nat.{suc-add, add-suc, not-suc-le-zero, lt_irrefl}
-use native.Mathlib.Numerals.{add-one, add-two}
 use native.Mathlib.Omega.{arith}
-use lib.ListN.{length, get_or, set, drop, drop_of_length-le}
+use lib.ListN.{length, length-append, get_or, set, drop}
 use lib.Dec.{lit<}
-use lib.Seq.{drop-cons}
+use lib.Seq.{drop-append-add}
 use Rattle.checksum.specs.Ones.{words_of, word_at, Bytes, Words}
 use Rattle.lists.proofs.Below.{below_nil, below_cons, below_tail}
 
--- two bytes or more from a place on: the word there, and the words after it
-pub words_more : (b : List ℕ) (i : ℕ) → i + 1 < length b → words_of (drop i b) ≡ word_at b i ∷ words_of (drop (i + 2) b)
-words_more b i h =
-    let here : i < length b = omega arith in
-    let next : suc i < length b = omega arith in
-    rw (drop-cons b i 0 here, drop-cons b (suc i) 0 next, add-one, add-two)
+-- two bytes and then others: the word of the two, and the words of the others
+pub words_front : (x r : List ℕ) → length x ≡ 2 → words_of (x ++ r) ≡ word_at x 0 ∷ words_of r
+words_front [] r h = absurd (omega arith)
+words_front (a ∷ []) r h = absurd (omega arith)
+words_front (a ∷ b ∷ []) r h = refl
+words_front (a ∷ b ∷ c ∷ x) r h = absurd (omega arith)
 
--- one byte from a place on: it is the high byte of a word
-pub words_last : (b : List ℕ) (i : ℕ) → i < length b → length b ≤ i + 1 → words_of (drop i b) ≡ (get_or b i 0 * 256) ∷ []
-words_last b i h l =
-    let past : length b ≤ suc i = omega arith in
-    rw (drop-cons b i 0 h, drop_of_length-le b past)
+-- the byte that is left where an odd number of them is cut two by two, or none
+abbrev pub left_over : List ℕ → List ℕ
+left_over r = drop (length r - length r % 2) r
 
--- no byte from a place on: no word
-pub words_none : (b : List ℕ) (i : ℕ) → length b ≤ i → words_of (drop i b) ≡ []
-words_none b i l = rw (drop_of_length-le b l)
+pub left_over_front : (x r : List ℕ) → length x ≡ 2 → left_over (x ++ r) ≡ left_over r
+left_over_front x r h =
+    let cut : length (x ++ r) - length (x ++ r) % 2 ≡ length x + (length r - length r % 2) = omega (arith, length-append x r) in
+    rw cut (drop-append-add x r (length r - length r % 2))
+
+-- of fewer than two bytes one is left over, the high byte of a word, or none
+pub words_odd : (r : List ℕ) → length r < 2 → 1 ≤ length (left_over r) → words_of r ≡ (get_or (left_over r) 0 0 * 256) ∷ []
+words_odd [] few some = absurd (omega arith)
+words_odd (a ∷ []) few some = refl
+words_odd (a ∷ b ∷ r) few some = absurd (omega arith)
+
+pub words_even : (r : List ℕ) → length r < 2 → length (left_over r) < 1 → words_of r ≡ []
+words_even [] few none = refl
+words_even (a ∷ []) few none = absurd (omega arith)
+words_even (a ∷ b ∷ r) few none = absurd (omega arith)
 
 -- the words of bytes fit sixteen bits
 pub words_fit : (b : List ℕ) → Bytes b → Words (words_of b)

@@ -19,14 +19,7 @@ fn add_carry(sum: u64) -> u64
 fn ones_add(a: u16, b: u16) -> u16
     ensures { result ≡ ones_add a b }
 {
-    add_carry(a as u64 + b as u64) as u16
-}
-
-// The word of a high and a low byte.
-fn word(high: u8, low: u8) -> u16
-    ensures { result ≡ high * 256 + low }
-{
-    (high as u16) * 256 + (low as u16)
+    add_carry(u64::from(a) + u64::from(b)) as u16
 }
 
 // The word whose high byte stands at `at`.
@@ -34,39 +27,24 @@ pub fn word_at(b: &[u8], at: usize) -> u16
     requires { at + 1 < length b.now }
     ensures { result ≡ word_at b.now at }
 {
-    word(b[at], b[at + 1])
-}
-
-// The number of four bytes, the highest first.
-fn group(a: u8, b: u8, c: u8, d: u8) -> u64
-    ensures { result ≡ group_of a b c d }
-{
-    (a as u64) * 16777216 + (b as u64) * 65536 + (c as u64) * 256 + (d as u64)
-}
-
-// The group whose first byte stands at `at`.
-fn group_at(b: &[u8], at: usize) -> u64
-    requires { at + 3 < length b.now }
-    ensures { result ≡ group_at b.now at }
-{
-    group(b[at], b[at + 1], b[at + 2], b[at + 3])
+    u16::from_be_bytes([b[at], b[at + 1]])
 }
 
 // The plain sum of the groups of `b`.
+#[tactic(auto, using(crate::proofs::Grouping::groups_next, crate::proofs::Grouping::groups_none, crate::proofs::Grouping::groups_below))]
 fn groups_sum(b: &[u8]) -> u64
     requires { WholeGroups (length b.now) }
     ensures { result ≡ total (groups_of b.now) }
 {
-    let mut sum: u64 = 0;
-    let mut i: usize = 0;
-    while i < b.len() {
-        sum = sum + group_at(b, i);
-        i = i + 4;
+    let mut sum = 0;
+    for group in b.chunks_exact(4) {
+        sum += u64::from(u32::from_be_bytes([group[0], group[1], group[2], group[3]]));
     }
     sum
 }
 
 // A plain sum as a word: its carry is added back, the carry of that, and once more.
+#[tactic(auto, using(crate::proofs::Grouping::folds_fit), unfolding(crate::specs::Ones::folded))]
 fn fold(sum: u64) -> u16
     requires { Foldable sum }
     ensures { result ≡ folded sum }
@@ -92,17 +70,17 @@ fn in_groups(length: usize) -> usize
 pub fn ones_sum(b: &[u8]) -> u16
     ensures { result ≡ ones_sum (words_of b.now) }
 {
-    let grouped = in_groups(b.len());
-    let mut sum = fold(groups_sum(&b[0..grouped]));
-    let mut i = grouped;
-    while i + 1 < b.len() {
-        sum = ones_add(sum, word_at(b, i));
-        i = i + 2;
+    let (groups, rest) = b.split_at(in_groups(b.len()));
+    let words = rest.chunks_exact(2);
+    let odd = words.remainder();
+    let mut sum = fold(groups_sum(groups));
+    for word in words {
+        sum = ones_add(sum, u16::from_be_bytes([word[0], word[1]]));
     }
-    if i < b.len() {
-        return ones_add(sum, word(b[i], 0));
+    match odd {
+        [last] => ones_add(sum, u16::from_be_bytes([*last, 0])),
+        _ => sum,
     }
-    sum
 }
 
 // Whether the checksum over the bytes of `b` verifies.
@@ -113,6 +91,7 @@ pub fn is_valid(b: &[u8]) -> bool
 }
 
 // The checksum `hc` after one word changed from `old` to `new`: RFC 1624, equation 3.
+#[tactic(auto, unfolding(crate::specs::Ones::edited))]
 pub fn edit(hc: u16, old: u16, new: u16) -> u16
     ensures { result ≡ edited hc old new }
 {

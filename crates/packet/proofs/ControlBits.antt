@@ -8,17 +8,17 @@ use lib.Dec.{eqb}
 use lib.ListN.{length, get_or, drop}
 use lib.Seq.{get_or-take, get_or-drop}
 use borrow.Author.Tests.{ltb-false}
+use Rattle.std.proofs.Common.{Ok}
 use Rattle.lists.proofs.Cases.{second}
 use Rattle.packet.specs.Bytes.{header_length, payload_length, payload}
 use Rattle.packet.specs.Reading.{tcp_tests, tcp_malformed, flags_of, read_tcp, ports_of, read_packet}
 use Rattle.packet.specs.ControlBits.{ControlBit, CWR, ECE, URG, ACK, PSH, RST, SYN, FIN, byte_of, flags_set, ControlBitsLaw}
 use Rattle.packet.specs.declared.read.Packet.{Packet}
 use Rattle.packet.specs.declared.read.TransportHeader.{TransportHeader}
-use Rattle.packet.specs.declared.read.Transport.TheVariants.{Carried}
-use Rattle.packet.specs.declared.read.Reading.TheVariants.{Taken}
+use Rattle.packet.specs.declared.read.Fault.{Fault}
 use Rattle.packet.proofs.Whole.{none, whole}
 use Rattle.packet.proofs.Redirected.{payload-length}
-use Rattle.packet.proofs.Taken.{malformed, accepted}
+use Rattle.packet.proofs.Taken.{refused, accepted}
 
 -- a bit as a number
 abbrev digit : Bool → ℕ
@@ -88,18 +88,18 @@ every b h = (
 )
 
 -- the flags that a TCP segment is read with are those of its byte 13
-module _ (t : List ℕ) (h : TransportHeader) (read : read_tcp t ≡ Carried h) where
+module _ (t : List ℕ) (h : TransportHeader) (read : read_tcp t ≡ Ok h) where
   long : 20 ≤ length t
   unfolding tcp_malformed
-  long = ltb-false (length t) 20 (none (tcp_tests t) (second (tcp_malformed t) _ _ _ (malformed h) read).0 0)
+  long = ltb-false (length t) 20 (none (tcp_tests t) (second (tcp_malformed t) _ _ _ (refused Fault.MalformedTransport h) read).0 0)
 
   segment_flags : h.flags ≡ flags_of (get_or t 13 0)
   segment_flags =
-      let same : ports_of t (flags_of (get_or t 13 0)) ≡ h = cc (second (tcp_malformed t) _ _ _ (malformed h) read).1 in
+      let same : ports_of t (flags_of (get_or t 13 0)) ≡ h = cc (second (tcp_malformed t) _ _ _ (refused Fault.MalformedTransport h) read).1 in
       sym (ap (λ (x : TransportHeader). x.flags) same)
 
 -- which is byte 13 from where the IP header's own length says
-packet_flags : (p : List ℕ) (r : Packet) → read_packet 6 p ≡ Taken r → r.transport.flags ≡ flags_of (get_or p (header_length p + 13) 0)
+packet_flags : (p : List ℕ) (r : Packet) → read_packet 6 p ≡ Ok r → r.transport.flags ≡ flags_of (get_or p (header_length p + 13) 0)
 packet_flags p r taken =
     let was = accepted 6 p r taken in
     let w = whole p was.intact in

@@ -1,6 +1,6 @@
 -- Which of refusals 6 and 20 a packet gets: by whether it is whole, and then by the sum of its header's words.
 use Prim.Native.Nat.{ℕ}
-use mathlib.Core.Bool.{true, false, not, true≢false}
+use mathlib.Core.Bool.{Bool, true, false, cond, not, true≢false}
 use mathlib.Core.List.{List}
 use mathlib.Core.Logic.{⊎_elim, ◌↔◌, ◌≢◌}
 use mathlib.Core.Path.{◌≡◌, refl, sym, subst, ◌∙◌}
@@ -8,18 +8,19 @@ use native.Mathlib.Omega.{arith}
 use borrow.Author.Tests.{ne_eqb, eqb-true, eqb-false}
 use lib.Dec.{eqb}
 use lib.ListN.{get_or}
+use Rattle.std.proofs.Common.{Result, Ok, Err}
 use Rattle.lists.proofs.Cases.{truth, by_test}
 use Rattle.packet.specs.Bytes.{payload}
-use Rattle.packet.specs.Reading.{broken, Whole, header_verifies, fragment, header_of, read_transport, with_transport, on_header, read_packet}
+use Rattle.packet.specs.Reading.{broken, Whole, header_verifies, fragment, header_of, tcp_malformed, udp_malformed, with_transport, on_header, read_packet}
 use Rattle.packet.specs.HeaderChecksum.{number_of, number_read, header_sum, HeaderChecksumLaw}
-use Rattle.packet.specs.declared.read.HeaderReading.{HeaderReading}
-use Rattle.packet.specs.declared.read.Transport.{Transport}
-use Rattle.packet.specs.declared.read.Transport.TheVariants.{Malformed, Carried}
-use Rattle.packet.specs.declared.read.Reading.{Reading}
+use Rattle.packet.specs.declared.read.Fault.{Fault}
+use Rattle.packet.specs.declared.read.Header.{Header}
+use Rattle.packet.specs.declared.read.Packet.{Packet}
+use Rattle.packet.specs.declared.read.TransportHeader.{TransportHeader}
 use Rattle.packet.proofs.Whole.{whole, unbroken}
 
 -- a reading that gives neither 6 nor 20
-abbrev Other : Reading → Type 0
+abbrev Other : Result Packet Fault → Type 0
 Other r = (number_of r ≢ 6) × (number_of r ≢ 20)
 
 module _ (protocol : ℕ) (p : List ℕ) where
@@ -35,15 +36,17 @@ module _ (protocol : ℕ) (p : List ℕ) where
   gives_other : broken p ≡ false → header_verifies p ≡ true → Other (read_packet protocol p)
   unfolding read_packet
   gives_other e v = rw (e, v)
-      (by_test (λ (h : HeaderReading). Other (on_header protocol p h)) (fragment p) _ _
+      (by_test (λ (h : Result Header Fault). Other (on_header protocol p h)) (fragment p) _ _
       (λ _. (λ e. omega arith, λ e. omega arith))
       (λ _. by_test Other (not (eqb (get_or p 9 0) protocol)) _ _
       (λ _. (λ e. omega arith, λ e. omega arith))
-      (λ _. by_transport (read_transport protocol (payload p)))))
+      (λ _. by_test (λ (t : Result TransportHeader Fault). Other (with_transport (header_of p) t)) (eqb protocol 6) _ _
+      (λ _. by_transport (tcp_malformed (payload p)) _)
+      (λ _. by_transport (udp_malformed (payload p)) _))))
     where
-      by_transport : (t : Transport) → Other (with_transport (header_of p) t)
-      by_transport Malformed = (λ e. omega arith, λ e. omega arith)
-      by_transport (Carried h) = (λ e. omega arith, λ e. omega arith)
+      by_transport : (bad : Bool) (h : TransportHeader) → Other (with_transport (header_of p) (cond bad (Err Fault.MalformedTransport) (Ok h)))
+      by_transport true h = (λ e. omega arith, λ e. omega arith)
+      by_transport false h = (λ e. omega arith, λ e. omega arith)
 
   -- each of three cases, and what holds in it of the number
   by_case : (P : ℕ → Type 0)

@@ -10,6 +10,7 @@ use lib.ListN.{length, get_or, take, drop}
 use lib.Seq.{length-take-le, drop_at, take-take, take-add, get_or-take}
 use borrow.Author.Tests.{le-ltb}
 use lib.Dec.{eqb}
+use Rattle.std.proofs.Common.{Ok, Err}
 use Rattle.lists.proofs.Cases.{truth}
 use Rattle.checksum.specs.Ones.{word_at}
 use Rattle.packet.specs.Bytes.{address_at, header_length, total_length, payload_length, payload}
@@ -17,9 +18,7 @@ use Rattle.packet.specs.Reading.{broken, header_verifies, fragment, header_of, r
 use Rattle.packet.specs.Redirect.{address_place, redirected, Redirectable}
 use Rattle.packet.specs.Laws.{SameUpToTotal, PastTotal}
 use Rattle.packet.specs.declared.read.Fault.{Fault}
-use Rattle.packet.specs.declared.read.HeaderReading.{HeaderReading}
 use Rattle.packet.specs.declared.read.Packet.{Packet}
-use Rattle.packet.specs.declared.read.Reading.TheVariants.{Refused, Taken}
 use Rattle.packet.specs.declared.redirect.Side.{Side}
 use Rattle.packet.proofs.Places.{address_place_lem}
 use Rattle.packet.proofs.Whole.{whole}
@@ -103,12 +102,12 @@ module _ (p p' : List ℕ) (same : SameUpToTotal p p') (intact : broken p ≡ fa
   read_intact protocol = rw (unbroken, intact, valid_same, fragment_same, fields_same) (by_tests (header_verifies p) (fragment p))
     where
       by_tests : (v f : Bool)
-          → let h = cond (not v) (HeaderReading.Refused Fault.BadChecksum) (cond f (HeaderReading.Refused Fault.Fragment) (HeaderReading.Read (header_of p))) in
+          → let h = cond (not v) (Err Fault.BadChecksum) (cond f (Err Fault.Fragment) (Ok (header_of p))) in
           on_header protocol p' h ≡ on_header protocol p h
       by_tests false f = refl
       by_tests true true = refl
       by_tests true false =
-          ap (λ (t : List ℕ). cond (not (eqb (get_or p 9 0) protocol)) (Refused Fault.OtherProtocol) (with_transport (header_of p) (read_transport protocol t))) part
+          ap (λ (t : List ℕ). cond (not (eqb (get_or p 9 0) protocol)) (Err Fault.OtherProtocol) (with_transport (header_of p) (read_transport protocol t))) part
 
   -- both can be redirected
   module _ (protocol : ℕ) (side : Side) (a' port : ℕ) (can : Redirectable protocol p) (can' : Redirectable protocol p') where
@@ -156,7 +155,7 @@ read_alike protocol p p' same =
         (λ (e' : broken p' ≡ false). absurd (true≢false (sym e ∙ unbroken p' p (same_back p p' same) e')))
         (truth (broken p'))
 
-pub past_total : (protocol : ℕ) (side : Side) (a' port : ℕ) (p p' : List ℕ) (r : Packet) → read_packet protocol p ≡ Taken r → SameUpToTotal p p'
+pub past_total : (protocol : ℕ) (side : Side) (a' port : ℕ) (p p' : List ℕ) (r : Packet) → read_packet protocol p ≡ Ok r → SameUpToTotal p p'
     → PastTotal protocol side a' port p p'
 past_total protocol side a' port p p' r taken same =
     let can = redirectable protocol p r taken in

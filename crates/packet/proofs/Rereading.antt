@@ -8,13 +8,13 @@ use native.Mathlib.Omega.{arith}
 use lib.ListN.{length, get_or}
 use lib.Dec.{eqb, lit<}
 use borrow.Author.Tests.{eq-eqb}
+use Rattle.std.proofs.Common.{Ok}
 use Rattle.lists.proofs.Cases.{truth, second}
 use Rattle.checksum.specs.Ones.{word_at}
+use Rattle.packet.specs.declared.read.Fault.{Fault}
 use Rattle.packet.specs.declared.read.Flags.{Flags}
 use Rattle.packet.specs.declared.read.Packet.{Packet}
 use Rattle.packet.specs.declared.read.TransportHeader.{TransportHeader}
-use Rattle.packet.specs.declared.read.Transport.TheVariants.{Carried}
-use Rattle.packet.specs.declared.read.Reading.TheVariants.{Taken}
 use Rattle.packet.specs.declared.redirect.Side.{Side}
 use Rattle.packet.specs.declared.redirect.Side.TheVariants.{Source, Destination}
 use Rattle.packet.specs.Bytes.{address_at, header_length, total_length, payload}
@@ -26,7 +26,7 @@ use Rattle.packet.proofs.Whole.{whole}
 use Rattle.packet.proofs.Segment.{transport_edited-length, transport_edited_other, transport_edited_port}
 use Rattle.packet.proofs.Redirected.{redirected-length, redirected_high, redirected_low, redirected-payload, first-kept, header-kept, total_kept}
 use Rattle.packet.proofs.Verified.{header-verifies, other_high, other_low}
-use Rattle.packet.proofs.Taken.{malformed, accepted, carried_room, redirectable}
+use Rattle.packet.proofs.Taken.{refused, accepted, carried_room, redirectable}
 
 -- ---- the transport part
 
@@ -45,7 +45,7 @@ ports-set : (side : Side) (port : ℕ) (s t : List ℕ) (flags : Flags) → word
 ports-set Source port s t flags own kept = rw (own, kept)
 ports-set Destination port s t flags own kept = rw (own, kept)
 
-module _ (protocol : ℕ) (side : Side) (a a' port : ℕ) (t : List ℕ) (h : TransportHeader) (read : read_transport protocol t ≡ Carried h) where
+module _ (protocol : ℕ) (side : Side) (a a' port : ℕ) (t : List ℕ) (h : TransportHeader) (read : read_transport protocol t ≡ Ok h) where
   abbrev s : List ℕ
   s = transport_edited protocol (port_place side) a a' port t
 
@@ -72,19 +72,19 @@ module _ (protocol : ℕ) (side : Side) (a a' port : ℕ) (t : List ℕ) (h : Tr
       ports-set side port s t flags (transport_edited_port protocol (port_place side) a a' port t (port_place_lem side) room)
       (rw (other_port (port_place (other side)) (omega arith) (omega arith), other_port (port_place (other side) + 1) (omega arith) (omega arith)))
 
-  transport_again : read_transport protocol s ≡ Carried (with_port side port h)
+  transport_again : read_transport protocol s ≡ Ok (with_port side port h)
   transport_again =
       ⊎_elim
       (λ tcp. let past : sum_place protocol ≡ 16 = rw tcp in
-      let was = second (tcp_malformed t) _ _ _ (malformed h) (rw tcp at read) in
+      let was = second (tcp_malformed t) _ _ _ (refused Fault.MalformedTransport h) (rw tcp at read) in
       let old : ports_of t (flags_of (get_or t 13 0)) ≡ h = cc was.1 in
       rw (tcp, tcp_alike s t long (byte 12 (omega arith) (omega arith)) ∙ was.0, byte 13 (omega arith) (omega arith))
-      (ap Carried (ports_again (flags_of (get_or t 13 0)) ∙ ap (with_port side port) old)))
+      (ap Ok (ports_again (flags_of (get_or t 13 0)) ∙ ap (with_port side port) old)))
       (λ udp. let past : sum_place protocol ≡ 6 = rw udp in
-      let was = second (udp_malformed t) _ _ _ (malformed h) (rw udp at read) in
+      let was = second (udp_malformed t) _ _ _ (refused Fault.MalformedTransport h) (rw udp at read) in
       let old : ports_of t no_flags ≡ h = cc was.1 in
       rw (udp, udp_alike s t long (byte 4 (omega arith) (omega arith)) (byte 5 (omega arith) (omega arith)) ∙ was.0)
-      (ap Carried (ports_again no_flags ∙ ap (with_port side port) old)))
+      (ap Ok (ports_again no_flags ∙ ap (with_port side port) old)))
       (truth (eqb protocol 6))
 
 -- ---- the packet
@@ -135,7 +135,7 @@ module _ (protocol : ℕ) (side : Side) (a' port : ℕ) (p : List ℕ) (r : Pack
       addresses_set side a' port q p r.transport (header-kept protocol side a' port p can) (total_kept protocol side a' port p can) own kept
       ∙ ap (with_side side a' port) (accepted protocol p r given.taken).fields
 
-  pub read_again : read_packet protocol q ≡ Taken (with_side side a' port r)
+  pub read_again : read_packet protocol q ≡ Ok (with_side side a' port r)
   unfolding read_packet
   read_again =
       let was = accepted protocol p r given.taken in
@@ -143,4 +143,4 @@ module _ (protocol : ℕ) (side : Side) (a' port : ℕ) (p : List ℕ) (r : Pack
       let part = redirected-payload protocol side a' port p can in
       let read = transport_again protocol side (address_at p (address_place side)) a' port (payload p) r.transport was.carried in
       rw (intact_still, valid_still, unfragmented_still, own)
-      (ap (λ (t : List ℕ). with_transport (header_of q) (read_transport protocol t)) part ∙ ap (with_transport (header_of q)) read ∙ ap Taken described_again)
+      (ap (λ (t : List ℕ). with_transport (header_of q) (read_transport protocol t)) part ∙ ap (with_transport (header_of q)) read ∙ ap Ok described_again)

@@ -1,11 +1,10 @@
 -- Which bit of which byte each flag is, against the picture of a TCP header in RFC 9293 (section 3.1), as a statement; proofs/ControlBits.antt proves it.
 -- Assumes nothing: these are definitions.
-use Rattle.std.specs.Prelude.{ℕ, ◌+◌, ◌*◌, ◌<◌, ◌≡◌, Bool, cond, List, [], ◌∷◌, get_or}
+use Rattle.std.specs.Prelude.{ℕ, ◌+◌, ◌*◌, ◌<◌, ◌≡◌, Bool, cond, List, [], ◌∷◌, get_or, Ok}
 use Rattle.packet.specs.Bytes.{header_length}
 use Rattle.packet.specs.Reading.{read_packet}
 use Rattle.packet.specs.declared.read.Flags.{Flags}
 use Rattle.packet.specs.declared.read.Packet.{Packet}
-use Rattle.packet.specs.declared.read.Reading.TheVariants.{Taken}
 
 -- the eight control bits of RFC 9293
 pub data ControlBit : Type 0 where
@@ -48,5 +47,5 @@ pub record ControlBitsLaw : Type 0 where
   -- each of the 256 values of the byte is one of these pictures
   pub every : (b : ℕ) → b < 256 → (set : ControlBit → Bool) × (byte_of set ≡ b)
   -- a TCP packet with these bits in byte 13 of its transport part is read with these flags
-  pub read : (p : List ℕ) (r : Packet) → read_packet 6 p ≡ Taken r → (set : ControlBit → Bool)
+  pub read : (p : List ℕ) (r : Packet) → read_packet 6 p ≡ Ok r → (set : ControlBit → Bool)
       → get_or p (header_length p + control_byte) 0 ≡ byte_of set → r.transport.flags ≡ flags_set set

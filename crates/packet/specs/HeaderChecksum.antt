@@ -1,16 +1,16 @@
 -- Refusals 6 and 20 as SCOPE 4.6 and 4.20 tell them apart, in numbers: statements; proofs/HeaderChecksum.antt proves them (`header_checksum`).
 -- Assumes nothing: these are definitions.
-use Rattle.std.specs.Prelude.{ℕ, List, ◌↔◌, ◌≢◌, ◌≡◌}
+use Rattle.std.specs.Prelude.{ℕ, List, ◌↔◌, ◌≢◌, ◌≡◌, Result, Ok, Err}
 use Rattle.checksum.specs.Ones.{words_of, ones_sum}
 use Rattle.packet.specs.Bytes.{header}
 use Rattle.packet.specs.Reading.{fault_number, Whole, read_packet}
-use Rattle.packet.specs.declared.read.Reading.{Reading}
-use Rattle.packet.specs.declared.read.Reading.TheVariants.{Refused, Taken}
+use Rattle.packet.specs.declared.read.Fault.{Fault}
+use Rattle.packet.specs.declared.read.Packet.{Packet}
 
 -- the number that reading a packet gives, and 0 where it is taken
-abbrev pub number_of : Reading → ℕ
-number_of (Refused why) = fault_number why
-number_of (Taken r) = 0
+abbrev pub number_of : Result Packet Fault → ℕ
+number_of (Err why) = fault_number why
+number_of (Ok r) = 0
 
 abbrev pub number_read : (protocol : ℕ) → List ℕ → ℕ
 number_read protocol p = number_of (read_packet protocol p)

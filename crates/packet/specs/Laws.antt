@@ -1,12 +1,11 @@
 -- What redirecting a packet does and leaves, as statements; proofs/Redirections.antt proves them (`laws`). Assumes nothing: these are definitions.
-use Rattle.std.specs.Prelude.{ℕ, ◌+◌, ◌<◌, ◌≤◌, ◌≡◌, ◌≢◌, Bool, true, List, [], ◌∷◌, ◌++◌, length, get_or, take, drop}
+use Rattle.std.specs.Prelude.{ℕ, ◌+◌, ◌<◌, ◌≤◌, ◌≡◌, ◌≢◌, Bool, true, List, [], ◌∷◌, ◌++◌, length, get_or, take, drop, Ok}
 use Rattle.checksum.specs.Ones.{word_at, words_of, verifies, fresh, Bytes}
 use Rattle.packet.specs.Bytes.{set_word, header_length, total_length, payload_length, header, payload}
 use Rattle.packet.specs.Reading.{header_verifies, read_packet}
 use Rattle.packet.specs.Redirect.{address_place, port_place, sum_place, transmitted, redirected, Redirectable}
 use Rattle.packet.specs.declared.read.Packet.{Packet}
 use Rattle.packet.specs.declared.read.TransportHeader.{TransportHeader}
-use Rattle.packet.specs.declared.read.Reading.TheVariants.{Taken}
 use Rattle.packet.specs.declared.redirect.Side.{Side}
 use Rattle.packet.specs.declared.redirect.Side.TheVariants.{Source, Destination}
 
@@ -31,7 +30,7 @@ fresh_transport protocol p = fresh (pseudo_header protocol p ++ words_of (set_wo
 -- a packet that was taken, and an address and a port to set
 pub record Given (protocol a' port : ℕ) (p : List ℕ) (r : Packet) : Type 0 where
   pub bytes : Bytes p
-  pub taken : read_packet protocol p ≡ Taken r
+  pub taken : read_packet protocol p ≡ Ok r
   pub address_fits : a' < 4294967296
   pub port_fits : port < 65536
 
@@ -87,7 +86,7 @@ with_side Destination a port r = record { header = r.header; total = r.total; so
 
 -- what holds of every packet that was taken, and of what it becomes
 pub record Laws : Type 0 where
-  pub redirectable : (protocol : ℕ) (p : List ℕ) (r : Packet) → read_packet protocol p ≡ Taken r → Redirectable protocol p
+  pub redirectable : (protocol : ℕ) (p : List ℕ) (r : Packet) → read_packet protocol p ≡ Ok r → Redirectable protocol p
   pub kept : (protocol : ℕ) (side : Side) (a' port : ℕ) (p : List ℕ) → Redirectable protocol p → Kept protocol side p (redirected protocol side a' port p)
   pub verifies_exactly : (protocol : ℕ) (side : Side) (a' port : ℕ) (p : List ℕ) (r : Packet) → Given protocol a' port p r
       → VerifiesExactly protocol p (redirected protocol side a' port p)
@@ -96,8 +95,8 @@ pub record Laws : Type 0 where
       → LeavesFresh protocol p (redirected protocol side a' port p)
   -- reading the redirected packet finds the address and port that were set, and all else as it was
   pub read_again : (protocol : ℕ) (side : Side) (a' port : ℕ) (p : List ℕ) (r : Packet) → Given protocol a' port p r
-      → read_packet protocol (redirected protocol side a' port p) ≡ Taken (with_side side a' port r)
+      → read_packet protocol (redirected protocol side a' port p) ≡ Ok (with_side side a' port r)
   -- bytes past the total length decide nothing: a packet is read, or refused, as one with others there is
   pub read_alike : (protocol : ℕ) (p p' : List ℕ) → SameUpToTotal p p' → read_packet protocol p' ≡ read_packet protocol p
-  pub past_total : (protocol : ℕ) (side : Side) (a' port : ℕ) (p p' : List ℕ) (r : Packet) → read_packet protocol p ≡ Taken r → SameUpToTotal p p'
+  pub past_total : (protocol : ℕ) (side : Side) (a' port : ℕ) (p p' : List ℕ) (r : Packet) → read_packet protocol p ≡ Ok r → SameUpToTotal p p'
       → PastTotal protocol side a' port p p'

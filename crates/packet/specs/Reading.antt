@@ -1,18 +1,13 @@
 -- What reading a packet finds (RFC 791, 9293, 768), and which of refusals 6, 20, 7, 8, 9 it meets (SCOPE 4.6 to 4.9, 4.20). Assumes nothing: these are
 -- definitions.
-use Rattle.std.specs.Prelude.{ℕ, ◌-◌, ◌*◌, ◌/◌, ◌%◌, ◌≤◌, ◌≡◌, List, [], ◌∷◌, Bool, false, cond, not, ◌||◌, length, get_or, take, drop, ltb, eqb}
+use Rattle.std.specs.Prelude.{ℕ, ◌-◌, ◌*◌, ◌/◌, ◌%◌, ◌≤◌, ◌≡◌, List, [], ◌∷◌, Bool, false, cond, not, ◌||◌, length, get_or, take, drop, ltb, eqb, Result, Ok, Err}
 use Rattle.checksum.specs.Ones.{word_at, words_of, verifies}
 use Rattle.packet.specs.Bytes.{address_at, header_length, total_length, header}
 use Rattle.packet.specs.declared.read.Flags.{Flags}
 use Rattle.packet.specs.declared.read.TransportHeader.{TransportHeader}
-use Rattle.packet.specs.declared.read.Transport.{Transport}
-use Rattle.packet.specs.declared.read.Transport.TheVariants.{Malformed, Carried}
 use Rattle.packet.specs.declared.read.Fault.{Fault}
 use Rattle.packet.specs.declared.read.Header.{Header}
-use Rattle.packet.specs.declared.read.HeaderReading.{HeaderReading}
 use Rattle.packet.specs.declared.read.Packet.{Packet}
-use Rattle.packet.specs.declared.read.Reading.{Reading}
-use Rattle.packet.specs.declared.read.Reading.TheVariants.{Refused, Taken}
 
 -- the number of each fault (SCOPE 4.6 to 4.9, 4.20)
 abbrev pub fault_number : Fault → ℕ
@@ -62,11 +57,11 @@ header_of p =
     record { length = header_length p; total = total_length p; source = address_at p 12; destination = address_at p 16; protocol = get_or p 9 0 }
 
 -- the first of refusals 6, 20 and 7 that applies, in that order; else the header, whatever it carries
-abbrev pub read_header : List ℕ → HeaderReading
+abbrev pub read_header : List ℕ → Result Header Fault
 read_header p =
-    cond (broken p) (HeaderReading.Refused Fault.MalformedHeader)
-    (cond (not (header_verifies p)) (HeaderReading.Refused Fault.BadChecksum)
-    (cond (fragment p) (HeaderReading.Refused Fault.Fragment) (HeaderReading.Read (header_of p))))
+    cond (broken p) (Err Fault.MalformedHeader)
+    (cond (not (header_verifies p)) (Err Fault.BadChecksum)
+    (cond (fragment p) (Err Fault.Fragment) (Ok (header_of p))))
 
 -- SCOPE 4.9 for TCP: payload under 20 bytes, data offset under 5 words or past the payload
 abbrev pub tcp_tests : List ℕ → List Bool
@@ -94,36 +89,36 @@ no_flags = record { syn = false; ack = false; rst = false; fin = false }
 abbrev pub ports_of : List ℕ → Flags → TransportHeader
 ports_of t flags = record { source = word_at t 0; destination = word_at t 2; flags = flags }
 
--- a TCP segment (RFC 9293)
-abbrev pub read_tcp : List ℕ → Transport
-read_tcp t = cond (tcp_malformed t) Malformed (Carried (ports_of t (flags_of (get_or t 13 0))))
+-- a TCP segment (RFC 9293), or refusal 9
+abbrev pub read_tcp : List ℕ → Result TransportHeader Fault
+read_tcp t = cond (tcp_malformed t) (Err Fault.MalformedTransport) (Ok (ports_of t (flags_of (get_or t 13 0))))
 
--- a UDP datagram (RFC 768)
-abbrev pub read_udp : List ℕ → Transport
-read_udp t = cond (udp_malformed t) Malformed (Carried (ports_of t no_flags))
+-- a UDP datagram (RFC 768), or refusal 9
+abbrev pub read_udp : List ℕ → Result TransportHeader Fault
+read_udp t = cond (udp_malformed t) (Err Fault.MalformedTransport) (Ok (ports_of t no_flags))
 
 -- protocol 6 is TCP; a service's only other is UDP (17)
-abbrev pub read_transport : ℕ → List ℕ → Transport
+abbrev pub read_transport : ℕ → List ℕ → Result TransportHeader Fault
 read_transport protocol t = cond (eqb protocol 6) (read_tcp t) (read_udp t)
 
 -- a header's lengths and addresses, with the transport header that was read
 abbrev pub packet_with : Header → TransportHeader → Packet
 packet_with h t = record { header = h.length; total = h.total; source = h.source; destination = h.destination; transport = t }
 
--- refusal 9 for a malformed transport part, else the packet
-abbrev pub with_transport : Header → Transport → Reading
-with_transport h Malformed = Refused Fault.MalformedTransport
-with_transport h (Carried t) = Taken (packet_with h t)
+-- the refusal of a transport part, else the packet
+abbrev pub with_transport : Header → Result TransportHeader Fault → Result Packet Fault
+with_transport h (Err why) = Err why
+with_transport h (Ok t) = Ok (packet_with h t)
 
 -- the packet with what reading its transport part finds, which stands from the header's length up to the total length
-abbrev pub read_payload : ℕ → Header → List ℕ → Reading
+abbrev pub read_payload : ℕ → Header → List ℕ → Result Packet Fault
 read_payload protocol h p = with_transport h (read_transport protocol (take (h.total - h.length) (drop h.length p)))
 
 -- what follows a header: 8, then 9
-abbrev pub on_header : ℕ → List ℕ → HeaderReading → Reading
-on_header protocol p (HeaderReading.Refused why) = Refused why
-on_header protocol p (HeaderReading.Read h) = cond (not (eqb h.protocol protocol)) (Refused Fault.OtherProtocol) (read_payload protocol h p)
+abbrev pub on_header : ℕ → List ℕ → Result Header Fault → Result Packet Fault
+on_header protocol p (Err why) = Err why
+on_header protocol p (Ok h) = cond (not (eqb h.protocol protocol)) (Err Fault.OtherProtocol) (read_payload protocol h p)
 
 -- the first of refusals 6, 20, 7, 8, 9 that applies, in that order (SCOPE 5.1); else the packet
-unfoldable pub read_packet : ℕ → List ℕ → Reading
+unfoldable pub read_packet : ℕ → List ℕ → Result Packet Fault
 read_packet protocol p = on_header protocol p (read_header p)

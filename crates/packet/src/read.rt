@@ -2,11 +2,11 @@
 ghost use Rattle.std.specs.Prelude.{◌≡◌, ◌≤◌, length};
 ghost use Rattle.packet.specs.Reading.{fault_number, broken, Whole, header_verifies, fragment, header_of, read_header, flags_of, read_tcp, read_udp, read_transport, read_payload, read_packet};
 
-use crate::bytes::{address_at, bytes_in, header_length, length_at};
+use crate::bytes::{address_at, header_length, length_at};
 use checksum::{is_valid, word_at};
 
 // The flags of a TCP header that connections go by.
-#[derive(Clone, Copy)]
+#[derive(Clone, Copy, Default)]
 pub struct Flags {
     pub syn: bool,
     pub ack: bool,
@@ -22,15 +22,8 @@ pub struct TransportHeader {
     pub flags: Flags,
 }
 
-// What reading a transport part finds.
-#[derive(Clone, Copy)]
-pub enum Transport {
-    Malformed,
-    Carried(TransportHeader),
-}
-
-// Why a packet is refused, in the order of the tests; `fault_number` gives its number (SCOPE 4.6 to 4.9, 4.20).
-#[derive(Clone, Copy)]
+// Why a packet is refused, in the order of the tests.
+#[derive(Clone, Copy, PartialEq, Eq)]
 pub enum Fault {
     MalformedHeader,
     BadChecksum,
@@ -40,15 +33,17 @@ pub enum Fault {
 }
 
 // The number of a fault (SCOPE 4.6 to 4.9, 4.20).
-pub fn fault_number(fault: Fault) -> u8
-    ensures { result ≡ fault_number fault }
-{
-    match fault {
-        Fault::MalformedHeader => 6,
-        Fault::BadChecksum => 20,
-        Fault::Fragment => 7,
-        Fault::OtherProtocol => 8,
-        Fault::MalformedTransport => 9,
+impl From<Fault> for u8 {
+    ghost from_gives = { λ fault number. number ≡ fault_number fault };
+
+    fn from(fault: Fault) -> u8 {
+        match fault {
+            Fault::MalformedHeader => 6,
+            Fault::BadChecksum => 20,
+            Fault::Fragment => 7,
+            Fault::OtherProtocol => 8,
+            Fault::MalformedTransport => 9,
+        }
     }
 }
 
@@ -62,13 +57,6 @@ pub struct Header {
     pub protocol: u8,
 }
 
-// What reading a header finds.
-#[derive(Clone, Copy)]
-pub enum HeaderReading {
-    Refused(Fault),
-    Read(Header),
-}
-
 // A packet that was taken: its lengths in bytes, addresses, and what its transport header holds.
 #[derive(Clone, Copy)]
 pub struct Packet {
@@ -79,32 +67,16 @@ pub struct Packet {
     pub transport: TransportHeader,
 }
 
-// What reading a packet finds.
-#[derive(Clone, Copy)]
-pub enum Reading {
-    Refused(Fault),
-    Taken(Packet),
-}
-
 // Refusal 6.
+#[tactic(auto, unfolding(crate::specs::Reading::broken))]
 fn is_broken(p: &[u8]) -> bool
     ensures { result ≡ broken p.now }
 {
-    if p.len() < 20 {
-        return true;
-    }
-    if p[0] / 16 != 4 {
-        return true;
-    }
-    if p[0] % 16 < 5 {
-        return true;
-    }
-    let header = header_length(p);
-    let total = length_at(p, 2);
-    if total < header {
-        return true;
-    }
-    p.len() < total
+    p.len() < 20
+        || p[0] / 16 != 4
+        || p[0] % 16 < 5
+        || length_at(p, 2) < header_length(p)
+        || p.len() < length_at(p, 2)
 }
 
 // The header checksum is valid; where it is not, that is refusal 20.
@@ -112,20 +84,17 @@ fn is_header_valid(p: &[u8]) -> bool
     requires { Whole p.now }
     ensures { result ≡ header_verifies p.now }
 {
-    let end = header_length(p);
-    is_valid(&p[..end])
+    is_valid(&p[..header_length(p)])
 }
 
 // Refusal 7.
+#[tactic(auto, unfolding(crate::specs::Reading::fragment))]
 fn is_fragment(p: &[u8]) -> bool
     requires { Whole p.now }
     ensures { result ≡ fragment p.now }
 {
-    let w = word_at(p, 6);
-    if w / 8192 % 2 == 1 {
-        return true;
-    }
-    w % 8192 != 0
+    let word = word_at(p, 6);
+    word / 8192 % 2 == 1 || word % 8192 != 0
 }
 
 // The header's fields.
@@ -143,19 +112,20 @@ fn header_of(p: &[u8]) -> Header
 }
 
 // The header of `p`, whatever it carries, or the first of refusals 6, 20 and 7 that applies.
-pub fn read_header(p: &[u8]) -> HeaderReading
+#[tactic(auto, using(crate::proofs::Whole::whole))]
+pub fn read_header(p: &[u8]) -> Result<Header, Fault>
     ensures { result ≡ read_header p.now }
 {
     if is_broken(p) {
-        return HeaderReading::Refused(Fault::MalformedHeader);
+        return Err(Fault::MalformedHeader);
     }
     if !is_header_valid(p) {
-        return HeaderReading::Refused(Fault::BadChecksum);
+        return Err(Fault::BadChecksum);
     }
     if is_fragment(p) {
-        return HeaderReading::Refused(Fault::Fragment);
+        return Err(Fault::Fragment);
     }
-    HeaderReading::Read(header_of(p))
+    Ok(header_of(p))
 }
 
 // The flags in a TCP header's byte 13.
@@ -171,20 +141,14 @@ fn flags_of(byte: u8) -> Flags
 }
 
 // A TCP segment, or refusal 9.
-fn read_tcp(t: &[u8]) -> Transport
+#[tactic(auto, unfolding(crate::specs::Reading::tcp_malformed))]
+fn read_tcp(t: &[u8]) -> Result<TransportHeader, Fault>
     ensures { result ≡ read_tcp t.now }
 {
-    if t.len() < 20 {
-        return Transport::Malformed;
+    if t.len() < 20 || t[12] / 16 < 5 || t.len() < usize::from(t[12] / 16) * 4 {
+        return Err(Fault::MalformedTransport);
     }
-    let words = t[12] / 16;
-    if words < 5 {
-        return Transport::Malformed;
-    }
-    if t.len() < bytes_in(words) {
-        return Transport::Malformed;
-    }
-    Transport::Carried(TransportHeader {
+    Ok(TransportHeader {
         source: word_at(t, 0),
         destination: word_at(t, 2),
         flags: flags_of(t[13]),
@@ -192,29 +156,22 @@ fn read_tcp(t: &[u8]) -> Transport
 }
 
 // A UDP datagram, or refusal 9.
-fn read_udp(t: &[u8]) -> Transport
+#[tactic(auto, unfolding(crate::specs::Reading::udp_malformed))]
+fn read_udp(t: &[u8]) -> Result<TransportHeader, Fault>
     ensures { result ≡ read_udp t.now }
 {
-    if t.len() < 8 {
-        return Transport::Malformed;
+    if t.len() < 8 || length_at(t, 4) != t.len() {
+        return Err(Fault::MalformedTransport);
     }
-    if length_at(t, 4) != t.len() {
-        return Transport::Malformed;
-    }
-    Transport::Carried(TransportHeader {
+    Ok(TransportHeader {
         source: word_at(t, 0),
         destination: word_at(t, 2),
-        flags: Flags {
-            syn: false,
-            ack: false,
-            rst: false,
-            fin: false,
-        },
+        flags: Flags::default(),
     })
 }
 
 // The transport part, by the service's protocol: 6 is TCP, and the only other is UDP.
-fn read_transport(protocol: u8, t: &[u8]) -> Transport
+fn read_transport(protocol: u8, t: &[u8]) -> Result<TransportHeader, Fault>
     ensures { result ≡ read_transport protocol t.now }
 {
     match protocol {
@@ -224,35 +181,28 @@ fn read_transport(protocol: u8, t: &[u8]) -> Transport
 }
 
 // A packet that no refusal before 9 names, by its header, or refusal 9.
-fn read_payload(protocol: u8, header: Header, p: &[u8]) -> Reading
+fn read_payload(protocol: u8, header: Header, p: &[u8]) -> Result<Packet, Fault>
     requires { (header.length ≤ header.total) × (header.total ≤ length p.now) }
     ensures { result ≡ read_payload protocol header p.now }
 {
-    let start = header.length;
-    let end = header.total;
-    match read_transport(protocol, &p[start..end]) {
-        Transport::Malformed => Reading::Refused(Fault::MalformedTransport),
-        Transport::Carried(transport) => Reading::Taken(Packet {
-            header: start,
-            total: end,
-            source: header.source,
-            destination: header.destination,
-            transport,
-        }),
-    }
+    let transport = read_transport(protocol, &p[header.length..header.total])?;
+    Ok(Packet {
+        header: header.length,
+        total: header.total,
+        source: header.source,
+        destination: header.destination,
+        transport,
+    })
 }
 
 // The packet in `p` for a service of `protocol`, or the first of refusals 6, 20, 7, 8, 9 that applies.
-pub fn read_packet(protocol: u8, p: &[u8]) -> Reading
+#[tactic(auto, using(crate::proofs::Taken::lengths_read), unfolding(crate::specs::Reading::read_packet))]
+pub fn read_packet(protocol: u8, p: &[u8]) -> Result<Packet, Fault>
     ensures { result ≡ read_packet protocol p.now }
 {
-    match read_header(p) {
-        HeaderReading::Refused(fault) => Reading::Refused(fault),
-        HeaderReading::Read(header) => {
-            if header.protocol != protocol {
-                return Reading::Refused(Fault::OtherProtocol);
-            }
-            read_payload(protocol, header, p)
-        }
+    let header = read_header(p)?;
+    if header.protocol != protocol {
+        return Err(Fault::OtherProtocol);
     }
+    read_payload(protocol, header, p)
 }

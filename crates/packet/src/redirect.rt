@@ -12,23 +12,25 @@ pub enum Side {
     Destination,
 }
 
-// Where a side's address stands in the IP header.
-fn address_place(side: Side) -> usize
-    ensures { result ≡ address_place side }
-{
-    match side {
-        Side::Source => 12,
-        Side::Destination => 16,
+impl Side {
+    // Where the side's address stands in the IP header.
+    fn address_place(self) -> usize
+        ensures { result ≡ address_place self }
+    {
+        match self {
+            Side::Source => 12,
+            Side::Destination => 16,
+        }
     }
-}
 
-// Where a side's port stands in the transport part.
-fn port_place(side: Side) -> usize
-    ensures { result ≡ port_place side }
-{
-    match side {
-        Side::Source => 0,
-        Side::Destination => 2,
+    // Where the side's port stands in the transport part.
+    fn port_place(self) -> usize
+        ensures { result ≡ port_place self }
+    {
+        match self {
+            Side::Source => 0,
+            Side::Destination => 2,
+        }
     }
 }
 
@@ -46,16 +48,15 @@ fn sum_place(protocol: u8) -> usize
 fn udp_written(sum: u16, edited: u16) -> u16
     ensures { result ≡ udp_written sum edited }
 {
-    if sum == 0 {
-        return 0;
+    match (sum, edited) {
+        (0, _) => 0,
+        (_, 0) => 65535,
+        _ => edited,
     }
-    if edited == 0 {
-        return 65535;
-    }
-    edited
 }
 
 // The transport checksum to write for an edited one.
+#[tactic(auto, unfolding(crate::specs::Redirect::sum_written))]
 fn sum_written(protocol: u8, sum: u16, edited: u16) -> u16
     ensures { result ≡ sum_written protocol sum edited }
 {
@@ -74,17 +75,18 @@ fn edit_address(sum: u16, old: u32, new: u32) -> u16
 }
 
 // Sets the address at `at`, and edits the header checksum for it.
+#[tactic(auto, unfolding(crate::specs::Redirect::header_edited))]
 fn edit_header(p: &mut [u8], at: usize, new: u32)
     requires { (20 ≤ length p.old) × (at + 3 < length p.old) }
     ensures { p.new ≡ header_edited at new p.old }
 {
     let old = address_at(p, at);
-    let sum = edit_address(word_at(p, 10), old, new);
-    set_word(p, 10, sum);
+    set_word(p, 10, edit_address(word_at(p, 10), old, new));
     set_address(p, at, new);
 }
 
 // Sets the port at `at` of a transport part, and edits its checksum for that and for the address.
+#[tactic(auto, unfolding(crate::specs::Redirect::transport_edited))]
 fn edit_transport(t: &mut [u8], protocol: u8, at: usize, old: u32, new: u32, port: u16)
     requires { (at + 1 < length t.old) × (sum_place protocol + 1 < length t.old) }
     ensures { t.new ≡ transport_edited protocol at old new port t.old }
@@ -97,15 +99,21 @@ fn edit_transport(t: &mut [u8], protocol: u8, at: usize, old: u32, new: u32, por
 }
 
 // Sets one side's address and port of a packet that was taken, and edits both checksums.
+#[tactic(auto, unfolding(crate::specs::Redirect::redirected))]
 pub fn redirect_packet(p: &mut [u8], protocol: u8, side: Side, address: u32, port: u16)
     requires { Redirectable protocol p.old }
     ensures { p.new ≡ redirected protocol side address port p.old }
 {
-    let header = header_length(p);
-    let total = length_at(p, 2);
-    let at = address_place(side);
-    let port_at = port_place(side);
+    let payload = header_length(p)..length_at(p, 2);
+    let at = side.address_place();
     let old = address_at(p, at);
     edit_header(p, at, address);
-    edit_transport(&mut p[header..total], protocol, port_at, old, address, port);
+    edit_transport(
+        &mut p[payload],
+        protocol,
+        side.port_place(),
+        old,
+        address,
+        port,
+    );
 }

@@ -1,45 +1,45 @@
--- `checksum::ones_sum` meets its contract. The invariant: the words from `i` on, added to `sum`, give the whole sum; where the groups end
--- it holds by the law of a sum by groups (`front_sum`).
-use borrow.Author.Rules.{rules}
-use native.Mathlib.Nat.{add-zero, sub-zero}
-use native.Mathlib.Omega.{arith}
+-- `checksum::ones_sum` meets its contract: each chunk is the next word, and an odd last byte is the high byte of a word.
 use mathlib.Core.Path.{◌∙◌}
+use native.Mathlib.Nat.{add-zero}
+use native.Mathlib.Omega.{arith}
 use Prim.Native.Nat.{ℕ}
-use lib.Seq.{length-take-le}
 use Rattle.checksum.specs.Ones.{Bytes}
-use Rattle.checksum.proofs.Words.{words_more, words_last, words_none}
+use Rattle.checksum.proofs.Words.{words_front, left_over_front, words_odd, words_even}
 use Rattle.checksum.proofs.Grouping.{front_below, front_sum}
 use Rattle.checksum.proofs.ones_sum.Goals as goal
 
-pub groups_sum-requires : goal.groups_sum-requires
-groups_sum-requires c =
-    let chosen = c.in_groups-grouped.ensures in
-    rw (sub-zero, length-take-le _ _ chosen.1) chosen.0
-
 pub fold-sum-requires : goal.fold-sum-requires
 fold-sum-requires c =
-    let chosen = c.in_groups-grouped.ensures in
-    let bytes : Bytes c.args.b.now
-    = record { at = λ (i : ℕ). omega (arith, c.type_inv.b i) } in
-    rw (c.groups_sum.ensures, sub-zero) (front_below _ _ bytes chosen.0 chosen.1)
+    let chosen = c.in_groups.ensures in
+    let bytes : Bytes c.args.b.now = record { at = λ (i : ℕ). omega (arith, c.type_inv.b i) } in
+    rw (c.groups_sum.ensures, c.split_at.ensures.front) (front_below _ _ bytes chosen.0 chosen.1)
 
-pub loop-i-init : goal.loop-i-init
-loop-i-init c =
-    let chosen = c.in_groups-grouped.ensures in
-    let bytes : Bytes c.args.b.now
-    = record { at = λ (i : ℕ). omega (arith, c.type_inv.b i) } in
-    (chosen.1, rw (c.fold-sum.ensures, c.groups_sum.ensures, sub-zero) (front_sum _ _ bytes chosen.0 chosen.1))
+pub loop-word-init : goal.loop-word-init
+loop-word-init c =
+    let chosen = c.in_groups.ensures in
+    let bytes : Bytes c.args.b.now = record { at = λ (i : ℕ). omega (arith, c.type_inv.b i) } in
+    let rest = c.chunks_exact-words.ensures.rest ∙ c.split_at.ensures.back in
+    rw c.into_iter-word-iterator.ensures.into_iter_gives (
+      c.chunks_exact-words.ensures.size,
+      c.remainder-odd.ensures ∙ rw c.chunks_exact-words.ensures.rest c.chunks_exact-words.ensures.remainder,
+      rw (rest, c.fold-sum.ensures, c.groups_sum.ensures, c.split_at.ensures.front) (front_sum _ _ bytes chosen.0 chosen.1),
+    )
 
-pub loop-i-preserved : goal.loop-i-preserved
-loop-i-preserved c =
-    let at-loop = c.loop-i in
-    (search rules, rw (c.ones_add-sum.ensures, c.word_at.ensures) (rw (words_more _ _ c.loop-i-test.true) at at-loop.invariant.1))
+pub loop-word-preserved : goal.loop-word-preserved
+loop-word-preserved c =
+    let steps = c.in-Some.ensures.steps in
+    let two = steps.1.1 ∙ c.loop-word.invariant.0 in
+    let next = words_front c.in-Some.word.now c.next.new.self.rest.now two in
+    let odd = left_over_front c.in-Some.word.now c.next.new.self.rest.now two in
+    (steps.0 ∙ c.loop-word.invariant.0, c.loop-word.invariant.1 ∙ rw steps.1.0 odd, rw (c.ones_add-sum.ensures, c.from_be_bytes.ensures) (rw (steps.1.0, next) at c.loop-word.invariant.2))
 
-pub returns-then-i-b : goal.returns-then-i-b
-returns-then-i-b c =
-    let at-loop = c.loop-i in
-    let after = c.loop-i-test.false in
-    rw (c.ones_add.ensures, c.word.ensures ∙ add-zero _) (rw (words_last _ _ c.if-i-b.true after) at at-loop.invariant.1)
+pub returns-in-len1 : goal.returns-in-len1
+returns-in-len1 c =
+    let (size, odd, sum) = c.loop-word.invariant in
+    let last = words_odd c.loop-word.word-iterator.rest.now (omega (arith, c.in-None.ensures.steps, size)) (rw odd at c.in-len1.len_at_least) in
+    rw (c.ones_add.ensures, c.from_be_bytes-in-len1.ensures, add-zero, odd) (rw last at sum)
 
-pub returns : goal.returns
-returns c = rw (words_none _ _ c.if-i-b.false) at c.loop-i.invariant.1
+pub returns-in_default : goal.returns-in_default
+returns-in_default c =
+    let (size, odd, sum) = c.loop-word.invariant in
+    rw (words_even c.loop-word.word-iterator.rest.now (omega (arith, c.in-None.ensures.steps, size)) (rw odd at c.in_default.len_below)) at sum
