@@ -20,19 +20,21 @@ ghost use Rattle.nidhaaguf.specs.Burst.{burst_replied, burst_exported};
 use director::control::{count, set_weight};
 use director::packets::take_packet;
 use director::setup::set_up;
-use director::state::{Service, Way};
+use director::state::{Director, Service, Way};
 use director::tick::tick;
 use reply::{Reply, reply_of};
 use servers::ServerNo;
 use serving::burst::burst;
-use state::{Servers, State, decode};
+use state::{Servers, State};
 
 // Sets up the service over the given servers.
 pub fn nidhaaguf_set_up(state: State, service: Service, servers: Servers, row: &mut [u32]) -> Reply
     ensures { replied result row.new [] ≡ exported state (setup_of (decoded state) service servers.server row.old) }
 {
-    let settings = servers.server;
-    reply_of(state.place, set_up(decode(state), service, settings, row))
+    reply_of(
+        state.place,
+        set_up(Director::from(state), service, servers.server, row),
+    )
 }
 
 // Sets a server's weight.
@@ -41,7 +43,7 @@ pub fn nidhaaguf_set_weight(state: State, row: &[u32], number: u32, weight: u16)
 {
     reply_of(
         state.place,
-        set_weight(decode(state), row, ServerNo(number), weight),
+        set_weight(Director::from(state), row, ServerNo(number), weight),
     )
 }
 
@@ -49,14 +51,17 @@ pub fn nidhaaguf_set_weight(state: State, row: &[u32], number: u32, weight: u16)
 pub fn nidhaaguf_count(state: State, row: &[u32], number: u32) -> Reply
     ensures { replied result row.now [] ≡ exported state (count_call_of (decoded state) row.now number) }
 {
-    reply_of(state.place, count(decode(state), row, ServerNo(number)))
+    reply_of(
+        state.place,
+        count(Director::from(state), row, ServerNo(number)),
+    )
 }
 
 // Moves the clock on.
 pub fn nidhaaguf_tick(state: State, row: &mut [u32], clock: u32) -> Reply
     ensures { replied result row.new [] ≡ exported state (tick_of (decoded state) row.old clock) }
 {
-    reply_of(state.place, tick(decode(state), row, clock))
+    reply_of(state.place, tick(Director::from(state), row, clock))
 }
 
 // Takes a packet from a client.
@@ -65,7 +70,7 @@ pub fn nidhaaguf_inbound(state: State, row: &mut [u32], packet: &mut [u8], clock
 {
     reply_of(
         state.place,
-        take_packet(Way::Inbound, decode(state), row, packet, clock),
+        take_packet(Way::Inbound, Director::from(state), row, packet, clock),
     )
 }
 
@@ -75,7 +80,7 @@ pub fn nidhaaguf_outbound(state: State, row: &mut [u32], packet: &mut [u8], cloc
 {
     reply_of(
         state.place,
-        take_packet(Way::Outbound, decode(state), row, packet, clock),
+        take_packet(Way::Outbound, Director::from(state), row, packet, clock),
     )
 }
 
@@ -91,6 +96,6 @@ pub fn nidhaaguf_burst(
 {
     reply_of(
         state.place,
-        burst(decode(state), row, packets, records, clock),
+        burst(Director::from(state), row, packets, records, clock),
     )
 }

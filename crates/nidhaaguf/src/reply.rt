@@ -4,10 +4,10 @@ ghost use Rattle.director.specs.State.{changes_nothing};
 ghost use Rattle.nidhaaguf.specs.declared.state.State.{State};
 ghost use Rattle.nidhaaguf.specs.Reply.{state_after, reply_of, HandedIn};
 
-use crate::state::{State, encode};
+use crate::state::State;
 use director::number::keeps_clock;
 use director::state::{Answer, Director, Outcome};
-use serving::told::told_by;
+use serving::told::Told;
 
 // NidhaagufAnswer: the state after a call and its answer, 816 bytes.
 #[repr(C)]
@@ -27,10 +27,8 @@ fn changes_nothing(answer: Answer) -> bool
     ensures { result ≡ changes_nothing answer }
 {
     match answer {
-        Answer::Done => false,
-        Answer::Number(_) => false,
-        Answer::Passed(_, _) => false,
         Answer::Refused(why) => !keeps_clock(why),
+        _ => false,
     }
 }
 
@@ -39,7 +37,7 @@ fn changes_nothing(answer: Answer) -> bool
 fn state_after(place: u64, director: Director, answer: Answer) -> State
     ensures { (given : State) → HandedIn given place director answer → result ≡ state_after given director answer }
 {
-    let mut state = encode(director);
+    let mut state = State::from(director);
     if changes_nothing(answer) {
         state.place = place;
     }
@@ -50,9 +48,8 @@ fn state_after(place: u64, director: Director, answer: Answer) -> State
 pub fn reply_of(place: u64, outcome: Outcome) -> Reply
     ensures { (given : State) → HandedIn given place outcome.director outcome.answer → result ≡ reply_of given outcome.director outcome.answer }
 {
-    let answer = outcome.answer;
-    let director = outcome.director;
-    let told = told_by(answer);
+    let Outcome { answer, director } = outcome;
+    let told = Told::from(answer);
     Reply {
         state: state_after(place, director, answer),
         refusal: told.refusal,

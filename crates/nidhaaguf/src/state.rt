@@ -35,13 +35,10 @@ pub struct Servers {
 fn place_of(number: u64) -> Place
     ensures { result ≡ place_of number }
 {
-    if number == 0 {
-        return Place::Start;
+    match number.checked_sub(1) {
+        None => Place::Start,
+        Some(no) => Place::At(ServerNo(u32::try_from(no).unwrap_or(u32::MAX))),
     }
-    if number <= 4294967296 {
-        return Place::At(ServerNo((number - 1) as u32));
-    }
-    Place::At(ServerNo(4294967295))
 }
 
 // The number of a place.
@@ -50,48 +47,55 @@ fn place_number(place: Place) -> u64
 {
     match place {
         Place::Start => 0,
-        Place::At(no) => no.0 as u64 + 1,
+        Place::At(no) => u64::from(no.0) + 1,
     }
 }
 
 // The director's state of a state in plain numbers.
-pub fn decode(state: State) -> Director
-    ensures { result ≡ decoded state }
-{
-    let service = state.service;
-    let servers = state.servers;
-    let place = place_of(state.place);
-    Director {
-        service,
-        servers,
-        weights: Weights {
-            largest: state.largest_weight,
-            divisor: state.weight_divisor,
-        },
-        walk: Walk {
-            place,
-            level: state.level,
-        },
-        clock: state.clock,
+impl From<State> for Director {
+    ghost from_gives = { λ state director. director ≡ decoded state };
+
+    fn from(state: State) -> Director {
+        let State {
+            service,
+            servers,
+            ..
+        } = state;
+        Director {
+            service,
+            servers,
+            weights: Weights {
+                largest: state.largest_weight,
+                divisor: state.weight_divisor,
+            },
+            walk: Walk {
+                place: place_of(state.place),
+                level: state.level,
+            },
+            clock: state.clock,
+        }
     }
 }
 
 // The director's state in plain numbers.
-pub fn encode(director: Director) -> State
-    ensures { result ≡ encoded director }
-{
-    let service = director.service;
-    let servers = director.servers;
-    let weights = director.weights;
-    let walk = director.walk;
-    let place = walk.place;
-    State {
-        service,
-        clock: director.clock,
-        servers,
-        place: place_number(place),
-        level: walk.level,
-        largest_weight: weights.largest,
-        weight_divisor: weights.divisor,
+impl From<Director> for State {
+    ghost from_gives = { λ director state. state ≡ encoded director };
+
+    fn from(director: Director) -> State {
+        let Director {
+            service,
+            servers,
+            clock,
+            ..
+        } = director;
+        State {
+            service,
+            clock,
+            servers,
+            place: place_number(director.walk.place),
+            level: director.walk.level,
+            largest_weight: director.weights.largest,
+            weight_divisor: director.weights.divisor,
+        }
     }
 }

@@ -6,9 +6,9 @@ mod serve;
 
 ghost use Rattle.nidhaaguf_serve.specs.Serve.{ServedFrom};
 
-use director::state::Outcome;
+use director::state::Director;
 use nidhaaguf::reply::reply_of;
-use nidhaaguf::state::{State, decode};
+use nidhaaguf::state::State;
 use serve::serve;
 
 // NidhaagufServed: the state after the packets, the tick's answer, and how many packets there were, 816 bytes.
@@ -43,7 +43,7 @@ pub extern "C" fn nidhaaguf_serve(
 {
     let serving = serve(
         descriptor,
-        decode(state),
+        Director::from(state),
         row,
         buffer,
         records,
@@ -52,15 +52,13 @@ pub extern "C" fn nidhaaguf_serve(
         most,
         stop,
     );
-    let answer = serving.answer;
-    let director = serving.director;
-    let reply = reply_of(state.place, Outcome { answer, director });
-    let after = reply.state;
+    let progress = serving.progress;
+    let reply = reply_of(state.place, serving.outcome);
     Served {
-        state: after,
+        state: reply.state,
         refusal: reply.refusal,
         removed: reply.number,
-        taken: serving.taken,
-        unsent: serving.unsent,
+        taken: progress.taken,
+        unsent: progress.unsent,
     }
 }

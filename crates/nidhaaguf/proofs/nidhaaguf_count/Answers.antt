@@ -6,5 +6,5 @@ use Rattle.nidhaaguf.proofs.nidhaaguf_count.Goals as goal
 
 pub returns : goal.returns
 returns c =
-    let met = rw c.decode.ensures at c.count.ensures in
+    let met = rw c.from.ensures at c.count.ensures in
     as_exported c.args.state _ _ _ _ _ met (count-leaves (decoded c.args.state) c.args.row.now c.args.number) _ c.reply_of.ensures

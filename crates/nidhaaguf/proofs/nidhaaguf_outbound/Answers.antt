@@ -10,6 +10,6 @@ use Rattle.nidhaaguf.proofs.nidhaaguf_outbound.Goals as goal
 
 pub returns : goal.returns
 returns c =
-    let met = rw c.decode.ensures at c.take_packet.ensures in
+    let met = rw c.from.ensures at c.take_packet.ensures in
     let bytes : Bytes c.args.packet.now = record { at = λ (i : ℕ). grind arith } in
     as_exported c.args.state _ _ _ _ _ met (packet_leaves (decoded c.args.state) c.args.row.now c.args.packet.now c.args.clock bytes Way.Outbound) _ c.reply_of.ensures

@@ -6,5 +6,5 @@ use Rattle.nidhaaguf.proofs.nidhaaguf_set_up.Goals as goal
 
 pub returns : goal.returns
 returns c =
-    let met = rw c.decode.ensures at c.set_up.ensures in
+    let met = rw c.from.ensures at c.set_up.ensures in
     as_exported c.args.state _ _ _ _ _ met (setup_leaves (decoded c.args.state) c.args.service c.args.servers.server c.args.row.now) _ c.reply_of.ensures

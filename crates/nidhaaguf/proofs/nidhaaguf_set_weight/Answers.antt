@@ -6,5 +6,5 @@ use Rattle.nidhaaguf.proofs.nidhaaguf_set_weight.Goals as goal
 
 pub returns : goal.returns
 returns c =
-    let met = rw c.decode.ensures at c.set_weight.ensures in
+    let met = rw c.from.ensures at c.set_weight.ensures in
     as_exported c.args.state _ _ _ _ _ met (weight_leaves (decoded c.args.state) c.args.row.now c.args.number c.args.weight) _ c.reply_of.ensures

@@ -6,5 +6,5 @@ use Rattle.nidhaaguf.proofs.nidhaaguf_tick.Goals as goal
 
 pub returns : goal.returns
 returns c =
-    let met = rw c.decode.ensures at c.tick.ensures in
+    let met = rw c.from.ensures at c.tick.ensures in
     as_exported c.args.state _ _ _ _ _ met (tick-leaves (decoded c.args.state) c.args.row.now c.args.clock) _ c.reply_of.ensures
