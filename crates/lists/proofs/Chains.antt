@@ -9,10 +9,11 @@ use native.Mathlib.Omega.{arith}
 use borrow.Author.Tests.{lt-ltb, le-ltb, leb-true, leb-false}
 use lib.Dec.{ltb, leb}
 use lib.ListN.{length, get_or, take, drop}
-use Rattle.std.specs.List.{list_all, position_or_len, zip}
+use Rattle.std.specs.List.{fold, list_all, position_or_len, zip}
 use Rattle.std.proofs.lemmas.List.{take_all, get_or_past, length-drop, get_or-drop}
 use Rattle.std.proofs.lemmas.List.Folds.{list_all_more}
-use Rattle.lists.specs.Fold.{all_below}
+use Rattle.std.proofs.lemmas.List.Sums.{fold_more}
+use Rattle.lists.specs.Fold.{fold_below, all_below}
 use Rattle.lists.proofs.Cases.{truth}
 use Rattle.lists.proofs.Numbers.{all_from}
 
@@ -42,6 +43,22 @@ module _ {A : Type 0} (p : A → Bool) (l : List A) (d : A) where
       rw (get_or_past l n d past, e, and-true) (ap (list_all p) same ∙ all_up_to e n))
       (λ (h : leb (length l) n ≡ false). one_more n (leb-false (length l) n h) ∙ ap (λ b. b && p (get_or l n d)) (all_up_to e n))
       (truth (leb (length l) n))
+
+-- a fold over the first n elements, where what stands for a place past the end changes nothing
+pub fold_up_to : {A B : Type 0} (f : B → A → B) (z : B) (l : List A) (d : A) → ((b : B) → f b d ≡ b) → (n : ℕ)
+    → fold f z (take n l) ≡ fold_below (λ b k. f b (get_or l k d)) z n
+unfolding fold_below
+fold_up_to f z l d stays zero = refl
+fold_up_to f z l d stays (suc n) =
+    ⊎_elim
+    (λ (h : leb (length l) n ≡ true).
+    let past : length l ≤ n = leb-true (length l) n h in
+    let same : take (suc n) l ≡ take n l = take_all (suc n) l (omega arith) ∙ sym (take_all n l past) in
+    rw (get_or_past l n d past, stays) (ap (fold f z) same ∙ fold_up_to f z l d stays n))
+    (λ (h : leb (length l) n ≡ false).
+    let more : fold f z (take (suc n) l) ≡ f (fold f z (take n l)) (get_or l n d) = rw add-one at (fold_more f z l n d (leb-false (length l) n h)) in
+    more ∙ ap (λ b. f b (get_or l n d)) (fold_up_to f z l d stays n))
+    (truth (leb (length l) n))
 
 -- the elements from place a on, m of them
 pub all_between : {A : Type 0} (p : A → Bool) (l : List A) (d : A) (a m : ℕ) → a + m ≤ length l
