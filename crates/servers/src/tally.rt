@@ -23,9 +23,9 @@ pub fn count_one(counts: &mut [u32; 64], no: ServerNo)
 }
 
 // Whether the count of each of the first n servers is the number counted for it. The servers are read in place, as in `rules`.
-pub fn counts_agree(counts: &[u32; 64], servers: [Server; 64], n: u32) -> bool
+pub fn counts_agree(counts: &[u32; 64], servers: &[Server; 64], n: u32) -> bool
     requires { n ≤ 64 }
-    ensures { result ≡ counts_agree counts.now servers n }
+    ensures { result ≡ counts_agree counts.now servers.now n }
 {
     for i in 0..n {
         let no = ServerNo(i);

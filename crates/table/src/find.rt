@@ -1,10 +1,10 @@
 // Searches in the row: the lowest used slot of a client, the lowest free slot, and that where a used one counts as free.
-ghost use Rattle.std.specs.Prelude.{◌≡◌, ◌<◌, ◌/◌, length};
-ghost use Rattle.table.specs.Slots.{words_per_slot, slots, is_unused};
+ghost use Rattle.std.specs.Prelude.{◌≡◌, ◌<◌, ◌/◌, length, position};
+ghost use Rattle.table.specs.Slots.{words_per_slot, slots, slot_of_words, is_unused};
 ghost use Rattle.table.specs.Find.{of_client, first_from};
 ghost use Rattle.table.specs.Changes.{freed};
 
-use crate::slot::{Slot, SlotNo, WORDS, slot_at};
+use crate::slot::{Slot, SlotNo, WORDS, slot_at, slots_of};
 
 impl Slot {
     // Whether this is a used slot of a client. A client host's connections share its address but not their ports, so the port is
@@ -40,16 +40,19 @@ pub fn find_client(row: &[u32], address: u32, port: u16) -> Option<SlotNo>
     None
 }
 
+// The place of the first free slot among the words of slots.
+fn first_free(slots: &[[u32; WORDS]]) -> Option<usize>
+    ensures { result ≡ position (λ w. is_unused (slot_of_words w)) slots.now }
+{
+    slots.iter().position(|words| Slot::from(*words).is_unused())
+}
+
 // The lowest free slot.
+#[tactic(auto, using(crate::proofs::Finding::first_position))]
 pub fn find_free(row: &[u32]) -> Option<SlotNo>
     ensures { result ≡ first_from is_unused 0 (slots row.now) }
 {
-    for k in 0..row.len() / WORDS {
-        if slot_at(row, SlotNo(k)).is_unused() {
-            return Some(SlotNo(k));
-        }
-    }
-    None
+    first_free(slots_of(row)).map(SlotNo)
 }
 
 // The lowest slot that is free once slot `k` is freed: the lowest of the free ones and `k`.

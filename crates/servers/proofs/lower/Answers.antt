@@ -5,4 +5,4 @@ use lib.Seq.{set_out}
 use Rattle.servers.proofs.lower.Goals as goal
 
 pub returns-else-at-lt64 : goal.returns-else-at-lt64
-returns-else-at-lt64 c = sym (set_out c.args.servers c.args.no.0 _ (omega arith))
+returns-else-at-lt64 c = sym (set_out c.args.servers.now c.args.no.0 _ (omega arith))
