@@ -1,5 +1,5 @@
 -- Laws of the lowest free slot where a used one counts as free: there always is one, and none lies above that slot. Assumes nothing.
-use Prim.Native.Nat.{ℕ, ◌<◌}
+use Prim.Native.Nat.{ℕ, ◌<◌, ◌≤◌}
 use mathlib.Core.Bool.{true, false}
 use mathlib.Core.List.{List}
 use mathlib.Core.Path.{◌≡◌, sym, ap, ◌∙◌}
@@ -9,10 +9,14 @@ use lib.Seq.{get_or-set_same, get_or-set_other}
 use Rattle.lists.proofs.Counting.{count_some}
 use Rattle.table.specs.declared.slot.Slot.{Slot}
 use Rattle.std.proofs.Common.{Some, None}
+use mathlib.Core.Logic.{⊎_elim}
+use borrow.Author.Tests.{ltb-true, ltb-false}
+use lib.Dec.{ltb}
+use Rattle.lists.proofs.Cases.{truth}
 use Rattle.table.specs.Slots.{free_slot, is_unused}
 use Rattle.table.specs.Find.{first_from, IsLowest}
 use Rattle.table.specs.Changes.{freed}
-use Rattle.table.proofs.Finding.{lowest_found, nothing_passes}
+use Rattle.table.proofs.Finding.{slot_no, lowest_found, nothing_passes}
 
 module _ (l : List Slot) (k : ℕ) (within : k < length l) where
   -- slot k is free once it is freed
@@ -42,6 +46,14 @@ module _ (l : List Slot) (k : ℕ) (within : k < length l) where
         lowest = λ i h. lower_same i h ∙ used i h;
       } in
       sym (lowest_found is_unused (freed l k) k then)
+
+  -- the lower of the lowest free slot and k
+  pub lower_of : (j m : ℕ) → IsLowest is_unused l j → (k ≤ j → m ≡ k) → (j < k → m ≡ j) → Some (slot_no m) ≡ first_from is_unused 0 (freed l k)
+  lower_of j m low not_below below =
+      ⊎_elim
+      (λ (e : ltb j k ≡ true). let h = ltb-true j k e in rw (below h) (lower_free j h low))
+      (λ (e : ltb j k ≡ false). let h = ltb-false j k e in rw (not_below h) (itself_free (λ i g. low.lowest i (omega arith))))
+      (truth (ltb j k))
 
   -- so a slot is found: 13 can't arise
   pub freed_found : first_from is_unused 0 (freed l k) ≡ None → ⊥

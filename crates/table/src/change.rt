@@ -39,12 +39,5 @@ pub fn free_slot(row: &mut [u32], k: SlotNo)
     requires { IsRow row.old × (k.0 < length row.old / words_per_slot) }
     ensures { row.new ≡ words (freed (slots row.old) k.0) }
 {
-    let free = Slot {
-        phase: 0,
-        address: 0,
-        port: 0,
-        server: ServerNo(0),
-        seen: 0,
-    };
-    put_slot(row, k, free);
+    put_slot(row, k, Slot::FREE);
 }

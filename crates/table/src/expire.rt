@@ -60,13 +60,14 @@ impl Limits {
 }
 
 impl Slot {
-    // Whether a slot that was not seen after the clock holds an idle connection. Most slots of a busy table were seen within the shortest
-    // limit, so that is asked first.
+    // Whether a slot holds an idle connection. Most slots of a busy table were seen within the shortest limit, so that is asked first.
     fn is_idle(self, protocol: u8, clock: u32, limits: Limits) -> bool
-        requires { (self.seen ≤ clock) × (limits ≡ limits_at protocol clock) }
+        requires { limits ≡ limits_at protocol clock }
         ensures { result ≡ is_idle protocol clock self }
     {
-        self.seen <= limits.recent && self.phase != 0 && limits.of_phase(self.phase, protocol, clock) <= clock - self.seen
+        self.seen <= limits.recent
+            && self.phase != 0
+            && limits.of_phase(self.phase, protocol, clock) <= clock - self.seen
     }
 }
 

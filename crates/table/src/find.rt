@@ -44,11 +44,12 @@ pub fn find_client(row: &[u32], address: u32, port: u16) -> Option<SlotNo>
 fn first_free(slots: &[[u32; WORDS]]) -> Option<usize>
     ensures { result ≡ position (λ w. is_unused (slot_of_words w)) slots.now }
 {
-    slots.iter().position(|words| Slot::from(*words).is_unused())
+    slots
+        .iter()
+        .position(|words| Slot::from(*words).is_unused())
 }
 
 // The lowest free slot.
-#[tactic(auto, using(crate::proofs::Finding::first_position))]
 pub fn find_free(row: &[u32]) -> Option<SlotNo>
     ensures { result ≡ first_from is_unused 0 (slots row.now) }
 {
@@ -61,7 +62,7 @@ pub fn find_free_with(row: &[u32], k: SlotNo) -> SlotNo
     ensures { Some result ≡ first_from is_unused 0 (freed (slots row.now) k.0) }
 {
     match find_free(row) {
-        Some(free) if free < k => free,
-        _ => k,
+        Some(free) => free.min(k),
+        None => k,
     }
 }

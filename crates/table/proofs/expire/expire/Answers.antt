@@ -1,23 +1,27 @@
 -- `expire::expire` meets its contract. The invariant: what is done, with what is still to do, is the whole, and the table is sound (`Expiring`).
-use mathlib.Core.Path.{sym, ap, ◌∙◌}
+use mathlib.Core.Path.{◌∙◌}
 use native.Mathlib.Omega.{arith}
-use Rattle.table.proofs.Expiry.{start, seen_at, keep, named, remove, done}
+use Rattle.table.proofs.Expiry.{start, keep, named, remove, done}
 use Rattle.table.proofs.expire.expire.Goals as goal
+use Rattle.table.proofs.expire.expire.Goals.{then-is_idle, else-is_idle}
 
 pub loop-k-init : goal.loop-k-init
-loop-k-init c = ?
-
-pub is_idle-requires : goal.is_idle-requires
-is_idle-requires c = ?
+loop-k-init c = (omega arith, start c.args.protocol c.args.n c.args.clock c.args.row.now c.args.servers.now c.requires.1 c.told-servers)
 
 pub lower-requires : goal.lower-requires
-lower-requires c = ?
+lower-requires c = named c.loop-k.invariant.1 (omega arith) (cc) c.slot_at-slot.ensures (omega arith)
 
 pub overflow_add-removed : goal.overflow_add-removed
 overflow_add-removed c = omega (arith, c.loop-k.invariant.1)
 
 pub loop-k-preserved : goal.loop-k-preserved
-loop-k-preserved c = ?
+loop-k-preserved c =
+    let inv = c.loop-k.invariant.1 in
+    elim c.if-is_idle.branch [
+      | then-is_idle w ↦
+          (omega arith, rw (w.row-is ∙ w.free_slot.ensures, w.servers-is ∙ w.lower.ensures, w.removed-is) (remove inv (omega arith) (cc) c.slot_at-slot.ensures))
+      | else-is_idle w ↦ (omega arith, rw (w.row-is, w.servers-is, w.removed-is) (keep inv (omega arith) (cc)))
+    ]
 
 pub returns-clause-row : goal.returns-clause-row
 returns-clause-row c = (done c.loop-k.invariant.1 (omega arith)).0

@@ -1,9 +1,11 @@
 -- `find::find_client` meets its contract. The invariant: the slots of the pairs before i do not answer (`Passed`).
-use Prim.Native.Nat.{ℕ, ◌*◌}
+use Prim.Native.Nat.{ℕ, ◌*◌, ◌/◌}
 use mathlib.Core.Bool.{Bool}
 use mathlib.Core.List.{List}
-use mathlib.Core.Path.{◌≡◌, sym, ◌∙◌}
+use mathlib.Core.Path.{◌≡◌}
 use native.Mathlib.Omega.{arith}
+use lib.ListN.{length}
+use Rattle.table.specs.Slots.{words_per_slot}
 use Rattle.table.specs.declared.slot.Slot.{Slot}
 use Rattle.table.proofs.Search.{Passed, start, hit, miss, miss_two, none}
 use Rattle.table.proofs.find.find_client.Goals as goal
@@ -31,7 +33,7 @@ returns-then-is_of-3 c = hit (passed_pairs c.loop-i.invariant.1 (omega (arith, c
 
 pub returns : goal.returns
 returns c =
-    let all = passed_pairs c.loop-i.invariant.1 (omega (arith, c.loop-i.invariant.0, c.loop-i-test.false)) in
+    let all = passed_pairs {pairs = length c.args.row.now / words_per_slot / 2} c.loop-i.invariant.1 (omega (arith, c.loop-i.invariant.0, c.loop-i-test.false)) in
     elim c.else-last-end.branch [
       | else-last-end-via-then-last-end+else-is_of-3 w ↦ none (miss all (omega arith) (cc)) (omega arith)
       | else-last-end-via-else-last-end w ↦ none all (omega arith)

@@ -1,5 +1,4 @@
 -- `find::find_free` meets its contract: the first place whose words are a free slot is the lowest free slot (`first_position`).
-use Rattle.std.proofs.Common.{rules}
 use Rattle.std.proofs.lemmas.Grind.{common_steps}
 use native.Mathlib.Omega.{arith}
 use Rattle.table.specs.Slots.{slots, is_unused}

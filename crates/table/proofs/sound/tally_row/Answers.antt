@@ -1,10 +1,9 @@
 -- `sound::tally_row` meets its contract. The invariant: the slots before this one are sound, and counted (`Tallying`).
-use Prim.Native.Nat.{ℕ, ◌/◌, ◌<◌}
-use mathlib.Core.List.{List}
+use Prim.Native.Nat.{◌/◌, ◌<◌}
 use mathlib.Core.Path.{◌≡◌, sym, ◌∙◌}
 use native.Mathlib.Omega.{arith}
-use lib.ListN.{length, get_or}
-use Rattle.table.specs.Slots.{words_per_slot, slots, slot_of_words, slot_at}
+use lib.ListN.{length}
+use Rattle.table.specs.Slots.{words_per_slot, slot_at}
 use Rattle.table.proofs.Rows.{chunk_slot, length-chunks}
 use Rattle.table.proofs.Connections.{server_place}
 use Rattle.table.proofs.Tallies.{start, refused, pass, count, done}
@@ -31,7 +30,8 @@ pub loop-words-preserved : goal.loop-words-preserved
 loop-words-preserved c =
     let a = c.args in
     let (within, same) = chunk_slot a.row.now _ c.loop-words.words-index c.slots_of-words-items.ensures (omega arith) in
-    let here = (within, c.from-slot.ensures ∙ same) in
+    let here : (c.loop-words.words-index < length a.row.now / words_per_slot) × (c.from-slot.result ≡ slot_at a.row.now c.loop-words.words-index)
+    = (within, c.from-slot.ensures ∙ same) in
     let sound = sym c.is_sound.ensures ∙ c.if-not-is_sound.false in
     let judged = sym c.is_unused.ensures in
     elim c.if-not-is_unused.branch [
