@@ -1,8 +1,8 @@
 -- Euclid's algorithm: one step of it, as the code takes it, and that it finds the greatest common divisor. Assumes nothing.
 use mathlib.Core.List.{List}
-use mathlib.Core.Path.{◌≡◌, refl}
+use mathlib.Core.Path.{◌≡◌, refl, ◌∙◌}
 use Prim.Native.Nat.{ℕ, zero, suc, ◌%◌, ◌≤◌, ◌<◌, ◌∣◌}
-use native.Mathlib.Nat.{le_refl, le_of_suc-le-suc, le_trans, mod-lt, not-suc-le-zero, dvd_refl, dvd-zero, dvd_trans, dvd-mod_iff}
+use native.Mathlib.Nat.{le_refl, le_of_suc-le-suc, le_trans, mod-lt, zero-mod, not-suc-le-zero, dvd_refl, dvd-zero, dvd_trans, dvd-mod_iff}
 use native.Mathlib.Omega.{arith}
 use borrow.Author.Count.{below_none, below_more}
 use Rattle.servers.specs.Servers.{weight_at}
@@ -36,6 +36,11 @@ pub gcd-step : (a b : ℕ) → (b ≡ 0 → ⊥) → gcd_of a b ≡ gcd_of b (a 
 unfolding gcd_of euclid
 gcd-step a zero h = absurd (h refl)
 gcd-step a (suc b) h = enough b (a % suc b) (suc b) (a % suc b) (rest_le a b) (le_refl _)
+
+-- 0 changes no divisor
+pub gcd_past : (b : ℕ) → gcd_of 0 b ≡ b
+gcd_past zero = gcd-zero 0
+gcd_past (suc b) = gcd-step 0 (suc b) (λ e. omega arith) ∙ rw zero-mod (gcd-zero (suc b))
 
 euclid_divides : (k a b : ℕ) → b ≤ k → (euclid k a b ∣ a) × (euclid k a b ∣ b)
 unfolding euclid

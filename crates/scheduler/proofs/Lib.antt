@@ -1,4 +1,5 @@
 pub mod Gcd
+pub mod Folding
 pub mod Largest
 pub mod Held
 pub mod LeastLoaded

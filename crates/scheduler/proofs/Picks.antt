@@ -5,6 +5,7 @@ use mathlib.Core.List.{List}
 use mathlib.Core.Path.{◌≡◌, subst}
 use Prim.Native.Nat.{ℕ, ◌<◌}
 use native.Mathlib.Omega.{arith}
+use Rattle.std.specs.Prelude.{Some}
 use Rattle.servers.specs.declared.Server.{Server}
 use Rattle.servers.specs.declared.ServerNo.{ServerNo}
 use Rattle.scheduler.specs.Weights.{weights_gcd, largest_of, weights_of}
@@ -13,7 +14,6 @@ use Rattle.scheduler.specs.WeightedRoundRobin.{level_at, reaches}
 use Rattle.scheduler.specs.ByNumber.{scheduler_of, in_range, pick_of}
 use Rattle.scheduler.specs.Laws.{SomeWeight, IsFirst, IsNext, Within, Picking, Published, PickLaw}
 use Rattle.scheduler.specs.declared.least_loaded.Load.{Load}
-use Rattle.scheduler.specs.declared.walk.Place.{Place}
 use Rattle.scheduler.specs.declared.walk.Walk.{Walk}
 use Rattle.scheduler.specs.declared.walk.Pick.{Pick}
 use Rattle.scheduler.proofs.Numbers.{by_number}
@@ -29,7 +29,7 @@ module _ (k : ℕ) (s : List Server) (n : ℕ) (w : Walk) (some : SomeWeight s n
   abbrev p : Pick
   p = pick_of k s n (weights_of s n) w
 
-  next_picked : k ≡ 1 → (last : ServerNo) → w.place ≡ Place.At last → IsNext s n last.0 p.server.0
+  next_picked : k ≡ 1 → (last : ServerNo) → w.place ≡ Some last → IsNext s n last.0 p.server.0
   next_picked e last at =
       let here : last.0 < n = subst (Within n) at (place_in_range k s n w (omega (arith, some.1)) range) in
       rw (e, at) (round_robin_next s n (weights_of s n) last w.level here some)

@@ -8,10 +8,10 @@ use native.Mathlib.Nat.{add-zero, mod-eq_of_lt, mod_self, mod-add-mod, add-mod_l
 use native.Mathlib.Omega.{arith}
 use lib.Dec.{ltb, leb}
 use borrow.Author.Tests.{ltb-true, ltb-false, leb-true, leb-false}
+use Rattle.std.specs.Prelude.{Option, Some, None}
 use Rattle.lists.proofs.Cases.{by_test, truth}
 use Rattle.scheduler.specs.Laws.{AfterLaw, level_after, IsFirst, SomeTaken, RingLaw}
-use Rattle.scheduler.specs.Ring.{most_passed, after_in, next_of, picked_at, ring_from}
-use Rattle.scheduler.specs.declared.walk.Place.{Place}
+use Rattle.scheduler.specs.Ring.{most_passed, after_in, next_of, picked_at, ring_from, ring_of}
 use Rattle.scheduler.specs.declared.walk.Walk.{Walk}
 use Rattle.scheduler.specs.declared.walk.Pick.{Pick}
 use Rattle.servers.specs.declared.ServerNo.{ServerNo}
@@ -25,9 +25,9 @@ after-mod n i h =
 pub after_below : (n i : ℕ) → 0 < n → after_in n i < n
 after_below n i h = by_test (λ j. j < n) (ltb (i + 1) n) _ _ (ltb-true (i + 1) n) (λ e. h)
 
-pub next_below : (n : ℕ) (p : Place) → 0 < n → next_of n p < n
-next_below n Place.Start h = h
-next_below n (Place.At i) h = after_below n i.0 h
+pub next_below : (n : ℕ) (p : Option ServerNo) → 0 < n → next_of n p < n
+next_below n None h = h
+next_below n (Some i) h = after_below n i.0 h
 
 -- no step after i, and e + 1 steps after i
 step_none : (n i : ℕ) → i < n → (i + 0) % n ≡ i
@@ -44,13 +44,14 @@ distance n i j p q =
     (λ e. let h : j < i = leb-false i j e in (n - i + j, omega arith, ap (λ (k : ℕ). k % n) (omega arith) ∙ add-mod_left n j ∙ mod-eq_of_lt q))
     (truth (leb i j))
 
--- one less than k + 1
-less_one : (k : ℕ) → suc k - 1 ≡ k
-less_one k = omega arith
-
 -- the walk that comes to i at the level cw, and may pass k numbers, picks x
 pub record Picks (level : ℕ → ℕ → ℕ) (picks : ℕ → ℕ → Bool) (n k i cw : ℕ) (x : Pick) : Type 0 where
   pub whole : ring_from level picks n k i cw ≡ x
+
+-- a walk that begins once round
+pub ring_begun : (level : ℕ → ℕ → ℕ) (picks : ℕ → ℕ → Bool) (n k i : ℕ) (w : Walk) → k ≡ most_passed n → i ≡ next_of n w.place
+    → Picks level picks n k i w.level (ring_of level picks n w)
+ring_begun level picks n k i w h e = record { whole = rw (h, e) refl }
 
 module _ {level : ℕ → ℕ → ℕ} {picks : ℕ → ℕ → Bool} {n i cw : ℕ} {x : Pick} where
   -- a number that is taken at its level l ends the walk
@@ -60,11 +61,11 @@ module _ {level : ℕ → ℕ → ℕ} {picks : ℕ → ℕ → Bool} {n i cw : 
   ring_here {k = suc k} w e t = simp (← e, t) at w.whole
 
   -- a number that is not taken at its level l is passed, and the walk comes to j
-  pub ring_on : {k j l : ℕ} → Picks level picks n k i cw x → 0 < k → l ≡ level i cw → picks i l ≡ false → j ≡ after_in n i
-      → Picks level picks n (k - 1) j l x
+  pub ring_on : {k m j l : ℕ} → Picks level picks n k i cw x → k ≡ suc m → l ≡ level i cw → picks i l ≡ false → j ≡ after_in n i
+      → Picks level picks n m j l x
   unfolding ring_from
   ring_on {k = zero} w h e f a = absurd (omega arith)
-  ring_on {k = suc k} w h e f a = record { whole = rw (a, less_one) (simp (← e, f) at w.whole) }
+  ring_on {k = suc k} {m} w h e f a = let rest : m ≡ k = omega arith in record { whole = rw (a, rest) (simp (← e, f) at w.whole) }
 
   -- where none may be passed, the walk ends at the number, at its level l
   pub ring_end : {k l : ℕ} → Picks level picks n k i cw x → k ≤ 0 → l ≡ level i cw → picked_at i l ≡ x

@@ -7,6 +7,7 @@ use native.Mathlib.Nat.{mod-lt}
 use native.Mathlib.Omega.{arith}
 use lib.Dec.{eqb}
 use borrow.Author.Tests.{lt-ltb, ltb-true, ltb-false}
+use Rattle.std.specs.Prelude.{Some}
 use Rattle.lists.proofs.Cases.{both}
 use Rattle.servers.specs.Servers.{weight_at}
 use Rattle.servers.specs.declared.Server.{Server}
@@ -15,7 +16,6 @@ use Rattle.scheduler.specs.Walk.{at_server}
 use Rattle.scheduler.specs.Ring.{after_in, next_of}
 use Rattle.scheduler.specs.RoundRobin.{keeps_level, weighs, round_robin}
 use Rattle.scheduler.specs.Laws.{SomeWeight, level_after, IsFirst, SomeTaken, IsNext, NextLaw, Ranged, Serves, Picking}
-use Rattle.scheduler.specs.declared.walk.Place.{Place}
 use Rattle.scheduler.specs.declared.walk.Walk.{Walk}
 use Rattle.scheduler.specs.declared.walk.Pick.{Pick}
 use Rattle.scheduler.proofs.Walks.{at_some, rests_within}
@@ -66,7 +66,7 @@ module _ (s : List Server) (n : ℕ) (some : SomeWeight s n) where
 
 pub round_robin_next : NextLaw
 round_robin_next s n held i cw h some =
-    let w : Walk = record { place = Place.At i; level = cw } in
+    let w : Walk = record { place = Some i; level = cw } in
     next-after s n some i.0 cw (round_robin.pick s n held w) h
     (ring_first keeps_level (weighs s) n w (omega arith) (weighs_taken s n some (after_in n i.0) cw (after_below n i.0 (omega arith))))
 

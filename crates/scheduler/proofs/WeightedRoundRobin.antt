@@ -8,14 +8,15 @@ use native.Mathlib.Omega.{arith}
 use lib.Dec.{ltb, leb, eqb, leb-zero}
 use lib.Seq.{set-get_or}
 use borrow.Author.Tests.{lt-ltb, ltb-true, le-leb, leb-true, ne_eqb, eqb-true, eqb-false, not-true}
+use Rattle.std.specs.Prelude.{Option, Some, None}
 use Rattle.lists.proofs.Cases.{by_test, both}
+use Rattle.servers.specs.declared.ServerNo.{ServerNo}
 use Rattle.servers.specs.Servers.{unused, weight_at, with_weight}
 use Rattle.servers.specs.declared.Server.{Server}
 use Rattle.scheduler.specs.Weights.{weights_gcd, largest_of, weights_of}
 use Rattle.scheduler.specs.Ring.{after_in, next_of}
 use Rattle.scheduler.specs.WeightedRoundRobin.{level_place, level_at, reaches, weighted_round_robin}
 use Rattle.scheduler.specs.Laws.{SomeWeight, level_after, IsFirst, SomeTaken, Within, Ranged, Serves, Picking}
-use Rattle.scheduler.specs.declared.walk.Place.{Place}
 use Rattle.scheduler.specs.declared.walk.Walk.{Walk}
 use Rattle.scheduler.specs.declared.walk.Pick.{Pick}
 use Rattle.scheduler.proofs.Largest.{largest_met, some_largest}
@@ -44,10 +45,10 @@ module _ (g m : ℕ) (pm : 0 < m) where
       level_kept n e (after_in n i) (level_at g m i cw) (level_above (after_in n i) (level_at g m i cw) p) (level_most (after_in n i) (level_at g m i cw) q)
 
   -- at the first number that the walk comes to
-  level_start : (n cw : ℕ) (p : Place) → level_place n cw p ≡ true → 0 < level_at g m (next_of n p) cw
-  level_start n cw Place.Start h = level_first cw
-  level_start n cw (Place.At i) h =
-      level_above (next_of n (Place.At i)) cw (omega (arith, eqb-false cw 0 (not-true (eqb cw 0) (both (not (eqb cw 0)) (ltb i.0 n) h).0)))
+  level_start : (n cw : ℕ) (p : Option ServerNo) → level_place n cw p ≡ true → 0 < level_at g m (next_of n p) cw
+  level_start n cw None h = level_first cw
+  level_start n cw (Some i) h =
+      level_above (next_of n (Some i)) cw (omega (arith, eqb-false cw 0 (not-true (eqb cw 0) (both (not (eqb cw 0)) (ltb i.0 n) h).0)))
 
 module _ (s : List Server) (n : ℕ) (w : Walk) (some : SomeWeight s n) (range : weighted_round_robin.in_range (largest_of s n) n w ≡ true) where
   abbrev first : ℕ
@@ -95,9 +96,9 @@ weighted_picking s n w some range = moved_serves s n w some range (weighted_roun
 same_weight : (s : List Server) (i x : ℕ) → weight_at s i ≡ x → with_weight s i x ≡ s
 same_weight s i x e = rw (← e) (set-get_or s i unused)
 
-level_within : (n cw : ℕ) (p : Place) → level_place n cw p ≡ true → Within n p
-level_within n cw Place.Start h = tt
-level_within n cw (Place.At i) h = ltb-true i.0 n (both (not (eqb cw 0)) (ltb i.0 n) h).1
+level_within : (n cw : ℕ) (p : Option ServerNo) → level_place n cw p ≡ true → Within n p
+level_within n cw None h = tt
+level_within n cw (Some i) h = ltb-true i.0 n (both (not (eqb cw 0)) (ltb i.0 n) h).1
 
 pub weighted_ranged : Ranged weighted_round_robin
 weighted_ranged = record {

@@ -1,5 +1,5 @@
 -- What the definitions are proved to mean. Assumes nothing: these are statements; each `..Law` is proved in proofs/.
-use Rattle.std.specs.Prelude.{Bool, true, false, List, ◌↔◌, ◌≡◌, ℕ, zero, suc, ◌+◌, ◌%◌, ◌<◌, ◌≤◌}
+use Rattle.std.specs.Prelude.{Bool, true, false, List, ◌↔◌, ◌≡◌, ℕ, zero, suc, ◌+◌, ◌%◌, ◌<◌, ◌≤◌, Option, Some, None}
 use Rattle.std.specs.Int.{◌∣◌}
 use Rattle.servers.specs.Servers.{server_at, weight_at, with_weight, with_count}
 use Rattle.servers.specs.declared.Server.{Server}
@@ -13,7 +13,6 @@ use Rattle.scheduler.specs.LeastLoaded.{lighter_by, least_of}
 use Rattle.scheduler.specs.ByNumber.{scheduler_of, start_of, in_range, after_weight, pick_of}
 use Rattle.scheduler.specs.declared.least_loaded.Load.{Load}
 use Rattle.scheduler.specs.declared.weights.Weights.{Weights}
-use Rattle.scheduler.specs.declared.walk.Place.{Place}
 use Rattle.scheduler.specs.declared.walk.Walk.{Walk}
 use Rattle.scheduler.specs.declared.walk.Pick.{Pick}
 
@@ -90,7 +89,7 @@ module _ (level : ℕ → ℕ → ℕ) (picks : ℕ → ℕ → Bool) (n : ℕ) 
     pub steps : ℕ
     pub within : steps < k
     pub number : r.0 ≡ (i + steps) % n
-    pub moved : w ≡ record { place = Place.At r; level = level_after level n steps i cw }
+    pub moved : w ≡ record { place = Some r; level = level_after level n steps i cw }
     pub taken : picks r.0 (level_after level n steps i cw) ≡ true
     pub passed : (e : ℕ) → e < steps → picks ((i + e) % n) (level_after level n e i cw) ≡ false
 
@@ -119,14 +118,14 @@ pub record IsNext (s : List Server) (n i r : ℕ) : Type 0 where
 abbrev pub NextLaw : Type 0
 NextLaw =
     (s : List Server) (n : ℕ) (held : Weights) (i : ServerNo) (cw : ℕ) → i.0 < n → SomeWeight s n
-    → IsNext s n i.0 (round_robin.pick s n held (record { place = Place.At i; level = cw })).server.0
+    → IsNext s n i.0 (round_robin.pick s n held (record { place = Some i; level = cw })).server.0
 
 -- 4. Each scheduler
 
 -- a place that is -1 or one of the first n servers
-abbrev pub Within : ℕ → Place → Type 0
-Within n Place.Start = Unit {0}
-Within n (Place.At i) = i.0 < n
+abbrev pub Within : ℕ → Option ServerNo → Type 0
+Within n None = Unit {0}
+Within n (Some i) = i.0 < n
 
 -- what keeps the walk of scheduler c in its range
 pub record Ranged (c : Scheduler) : Type 0 where
@@ -154,7 +153,7 @@ Picking c =
 -- server i is whom scheduler k picks among the first n servers s, from the walk w to the walk w'
 pub record Published (k : ℕ) (s : List Server) (n : ℕ) (w : Walk) (i : ServerNo) (w' : Walk) : Type 0 where
   -- round-robin: "picked is the next number in the ring with weight above 0" (SCOPE 10.3), after the last pick
-  pub scheduler1 : k ≡ 1 → (last : ServerNo) → w.place ≡ Place.At last → IsNext s n last.0 i.0
+  pub scheduler1 : k ≡ 1 → (last : ServerNo) → w.place ≡ Some last → IsNext s n last.0 i.0
   -- weighted round-robin: "The first server with weight at least cw is picked." (SCOPE 10.5)
   pub scheduler2 : k ≡ 2 → IsFirst (level_at (weights_gcd s n) (largest_of s n)) (reaches s) n n (next_of n w.place) w.level i w'
   -- least-connection: "the smallest count among weights above 0; ties to the lowest number" (SCOPE 10.8)

@@ -1,6 +1,6 @@
 -- The ring of n servers, and the walk round it. Assumes nothing: these are definitions.
-use Rattle.std.specs.Prelude.{Bool, cond, ℕ, zero, suc, ◌+◌, ◌-◌, ltb}
-use Rattle.scheduler.specs.declared.walk.Place.{Place}
+use Rattle.std.specs.Prelude.{Bool, cond, ℕ, zero, suc, ◌+◌, ◌-◌, ltb, Option, Some, None}
+use Rattle.servers.specs.declared.ServerNo.{ServerNo}
 use Rattle.scheduler.specs.declared.walk.Walk.{Walk}
 use Rattle.scheduler.specs.declared.walk.Pick.{Pick}
 
@@ -12,14 +12,14 @@ after_in n i = cond (ltb (i + 1) n) (i + 1) 0
 abbrev pub most_passed : ℕ → ℕ
 most_passed n = n - 1
 
--- the number that a walk comes to next from its place: -1, which is Start, is followed by 0
-abbrev pub next_of : ℕ → Place → ℕ
-next_of n Place.Start = 0
-next_of n (Place.At i) = after_in n i.0
+-- the number that a walk comes to next from its place: -1, which is None, is followed by 0
+abbrev pub next_of : ℕ → Option ServerNo → ℕ
+next_of n None = 0
+next_of n (Some i) = after_in n i.0
 
 -- server i is picked, and the walk is there, at the level cw
 abbrev pub picked_at : ℕ → ℕ → Pick
-picked_at i cw = record { server = record { 0 = i }; walk = record { place = Place.At (record { 0 = i }); level = cw } }
+picked_at i cw = record { server = record { 0 = i }; walk = record { place = Some (record { 0 = i }); level = cw } }
 
 -- The walk round the ring of n servers, from the number i on, where k numbers may be passed. At a number the level becomes what
 -- `level` says of the number and the level so far; the first number that `picks` takes at its level is picked, and where none may be

@@ -1,20 +1,20 @@
 -- Scheduler 2, weighted round-robin. Assumes nothing: these are definitions.
-use Rattle.std.specs.Prelude.{Bool, true, cond, not, ◌&&◌, List, ℕ, ◌-◌, ltb, leb, eqb}
+use Rattle.std.specs.Prelude.{Bool, true, cond, not, ◌&&◌, List, ℕ, ◌-◌, ltb, leb, eqb, Option, Some, None}
+use Rattle.servers.specs.declared.ServerNo.{ServerNo}
 use Rattle.servers.specs.Servers.{weight_at}
 use Rattle.servers.specs.declared.Server.{Server}
 use Rattle.scheduler.specs.Ring.{ring_of}
 use Rattle.scheduler.specs.Scheduler.{Scheduler}
-use Rattle.scheduler.specs.declared.walk.Place.{Place}
 use Rattle.scheduler.specs.declared.walk.Walk.{Walk}
 
 -- "place i starts at −1, level cw at 0" (SCOPE 10.5)
 abbrev pub start_walk : Walk
-start_walk = record { place = Place.Start; level = 0 }
+start_walk = record { place = None; level = 0 }
 
 -- "i −1..n−1, .. cw 0 only with i = −1" (SCOPE 10.6)
-abbrev pub level_place : ℕ → ℕ → Place → Bool
-level_place n cw Place.Start = true
-level_place n cw (Place.At i) = not (eqb cw 0) && ltb i.0 n
+abbrev pub level_place : ℕ → ℕ → Option ServerNo → Bool
+level_place n cw None = true
+level_place n cw (Some i) = not (eqb cw 0) && ltb i.0 n
 
 -- the range, with the largest weight m: "cw 0 to the largest weight" (SCOPE 10.6)
 abbrev pub in_levels : ℕ → ℕ → Walk → Bool

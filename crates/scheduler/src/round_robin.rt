@@ -2,51 +2,57 @@
 // picked. A weight of 0 takes a server out of service. Where some weight is above 0, all numbers but one may be passed, and that one
 // needs no test.
 ghost use Rattle.std.specs.Prelude.{◌≡◌};
-ghost use Rattle.scheduler.specs.RoundRobin.{round_robin};
+ghost use Rattle.scheduler.specs.RoundRobin.{keeps_level, weighs, round_robin};
 
-use crate::ring::{after, last, most_passed, next, picked_at};
-use crate::walk::{Pick, Place, Walk, rests_at};
+use crate::algorithm::Algorithm;
+use crate::ring::{Round, go_round, last};
+use crate::walk::{Pick, Walk, rests_at};
 use crate::weights::Weights;
-use servers::{Server, weight_at};
+use servers::{Server, ServerNo, weight_at};
 
-// The walk's start: at the last server, so that the first is next.
-pub fn start(n: u32) -> Walk
-    ensures { result ≡ round_robin.start n }
-{
-    Walk {
-        place: Place::At(last(n)),
-        level: 0,
+#[derive(Clone, Copy)]
+pub struct RoundRobin;
+
+// The walk to the next server that weighs.
+#[derive(Clone, Copy)]
+struct NextWeighing<'a> {
+    servers: &'a [Server; 64],
+}
+
+impl Round for NextWeighing<'_> {
+    ghost levels = { λ by. keeps_level };
+
+    ghost picks = { λ by. weighs by.servers.now };
+
+    fn level_at(&self, no: ServerNo, level: u16) -> u16 {
+        level
+    }
+
+    fn takes(&self, no: ServerNo, level: u16) -> bool {
+        0 < weight_at(self.servers, no)
     }
 }
 
-// Whether a walk is in its range.
-pub fn in_range(top: u16, n: u32, walk: Walk) -> bool
-    ensures { result ≡ round_robin.in_range top n walk }
-{
-    rests_at(walk, n)
-}
+impl Algorithm for RoundRobin {
+    ghost says = { λ it. round_robin };
 
-// The walk after a weight was set from old to new: as it was.
-pub fn after_weight(walk: Walk, old: u16, new: u16) -> Walk
-    ensures { result ≡ round_robin.after_weight walk old new }
-{
-    walk
-}
-
-// The pick among the first n servers.
-pub fn pick(servers: [Server; 64], n: u32, held: Weights, walk: Walk) -> Pick
-    ensures { result ≡ round_robin.pick servers n held walk }
-{
-    let place = walk.place;
-    let level = walk.level;
-    let mut no = next(place, n);
-    let mut left = most_passed(n);
-    while 0 < left {
-        if 0 < weight_at(servers, no) {
-            return picked_at(no, level);
+    // At the last server, so that the first is next.
+    fn start(&self, n: u32) -> Walk {
+        Walk {
+            place: Some(last(n)),
+            level: 0,
         }
-        no = after(no, n);
-        left -= 1;
     }
-    picked_at(no, level)
+
+    fn in_range(&self, top: u16, n: u32, walk: Walk) -> bool {
+        rests_at(walk, n)
+    }
+
+    fn after_weight(&self, walk: Walk, old: u16, new: u16) -> Walk {
+        walk
+    }
+
+    fn pick(&self, servers: &[Server; 64], n: u32, held: Weights, walk: Walk) -> Pick {
+        go_round(&NextWeighing { servers }, n, walk)
+    }
 }

@@ -3,82 +3,76 @@
 // The first server with a weight at or above the level is picked, so in each round of levels a server is picked
 // weight / divisor times, and higher weights come first.
 ghost use Rattle.std.specs.Prelude.{◌≡◌};
-ghost use Rattle.scheduler.specs.WeightedRoundRobin.{level_at, weighted_round_robin};
+ghost use Rattle.scheduler.specs.WeightedRoundRobin.{start_walk, level_at, reaches, weighted_round_robin};
 
-use crate::ring::{after, most_passed, next, picked_at};
-use crate::walk::{Pick, Place, Walk};
+use crate::algorithm::Algorithm;
+use crate::ring::{Round, go_round};
+use crate::walk::{Pick, Walk};
 use crate::weights::Weights;
 use servers::{Server, ServerNo, weight_at};
 
-// The walk's start: before the first server.
-pub fn start(n: u32) -> Walk
-    ensures { result ≡ weighted_round_robin.start n }
-{
-    Walk {
-        place: Place::Start,
-        level: 0,
-    }
+#[derive(Clone, Copy)]
+pub struct WeightedRoundRobin;
+
+// The walk to the first server that reaches the level.
+#[derive(Clone, Copy)]
+struct FirstReaching<'a> {
+    servers: &'a [Server; 64],
+    held: Weights,
 }
 
-// Whether a walk is in its range, where top is the largest weight.
-pub fn in_range(top: u16, n: u32, walk: Walk) -> bool
-    ensures { result ≡ weighted_round_robin.in_range top n walk }
-{
-    let level = walk.level;
-    if top < level {
-        return false;
-    }
-    let place = walk.place;
-    match place {
-        Place::Start => true,
-        Place::At(no) => if level == 0 { false } else { no.0 < n },
-    }
-}
+impl Round for FirstReaching<'_> {
+    ghost levels = { λ by. level_at by.held.divisor by.held.largest };
 
-// The walk after a weight was set from old to new: at its start again where they differ.
-pub fn after_weight(walk: Walk, old: u16, new: u16) -> Walk
-    ensures { result ≡ weighted_round_robin.after_weight walk old new }
-{
-    if old == new {
-        return walk;
-    }
-    Walk {
-        place: Place::Start,
-        level: 0,
-    }
-}
+    ghost picks = { λ by. reaches by.servers.now };
 
-// The level when the walk comes to a number, where top is the largest weight.
-fn level_at(no: ServerNo, level: u16, divisor: u16, top: u16) -> u16
-    ensures { result ≡ level_at divisor top no.0 level }
-{
-    if no.0 != 0 {
-        return level;
-    }
-    if divisor < level {
-        level - divisor
-    } else {
-        top
-    }
-}
-
-// The pick among the first n servers, with the largest weight and the divisor that are held.
-pub fn pick(servers: [Server; 64], n: u32, held: Weights, walk: Walk) -> Pick
-    ensures { result ≡ weighted_round_robin.pick servers n held walk }
-{
-    let top = held.largest;
-    let divisor = held.divisor;
-    let place = walk.place;
-    let mut level = walk.level;
-    let mut no = next(place, n);
-    let mut left = most_passed(n);
-    while 0 < left {
-        level = level_at(no, level, divisor, top);
-        if level <= weight_at(servers, no) {
-            return picked_at(no, level);
+    fn level_at(&self, no: ServerNo, level: u16) -> u16 {
+        if no.0 != 0 {
+            return level;
         }
-        no = after(no, n);
-        left -= 1;
+        if self.held.divisor < level {
+            level - self.held.divisor
+        } else {
+            self.held.largest
+        }
     }
-    picked_at(no, level_at(no, level, divisor, top))
+
+    fn takes(&self, no: ServerNo, level: u16) -> bool {
+        level <= weight_at(self.servers, no)
+    }
+}
+
+// Before the first server.
+fn start_walk() -> Walk
+    ensures { result ≡ start_walk }
+{
+    Walk {
+        place: None,
+        level: 0,
+    }
+}
+
+impl Algorithm for WeightedRoundRobin {
+    ghost says = { λ it. weighted_round_robin };
+
+    fn start(&self, n: u32) -> Walk {
+        start_walk()
+    }
+
+    fn in_range(&self, top: u16, n: u32, walk: Walk) -> bool {
+        walk.level <= top
+            && match walk.place {
+                None => true,
+                Some(no) => walk.level != 0 && no.0 < n,
+            }
+    }
+
+    // At its start again where the weights differ.
+    fn after_weight(&self, walk: Walk, old: u16, new: u16) -> Walk {
+        if old == new { walk } else { start_walk() }
+    }
+
+    fn pick(&self, servers: &[Server; 64], n: u32, held: Weights, walk: Walk) -> Pick {
+        go_round(&FirstReaching { servers, held }, n, walk)
+    }
 }

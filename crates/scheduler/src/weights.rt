@@ -1,12 +1,12 @@
 // What weighted round-robin and refusal 14 need of all the weights: the largest, and the greatest common divisor. A state holds both,
 // so that neither works them out.
-ghost use Rattle.std.specs.Prelude.{◌≡◌, ◌≤◌, max};
+ghost use Rattle.std.specs.Prelude.{◌≡◌};
 ghost use Rattle.scheduler.specs.Weights.{gcd_of, weights_of, weights_agree, none_weighs};
 
-use servers::{Server, ServerNo};
+use servers::Server;
 
 // The largest weight of the servers in use, and the greatest common divisor of their weights: both 0 where every weight is 0.
-#[derive(Clone, Copy)]
+#[derive(Clone, Copy, PartialEq, Eq)]
 pub struct Weights {
     pub largest: u16,
     pub divisor: u16,
@@ -19,37 +19,28 @@ fn gcd(a: u16, b: u16) -> u16
     if b == 0 { a } else { gcd(b, a % b) }
 }
 
-// The greater of two weights.
-fn greater(a: u16, b: u16) -> u16
-    ensures { result ≡ max a b }
+// Both numbers of the first n weights.
+pub fn weights_of(servers: &[Server; 64], n: u32) -> Weights
+    ensures { result ≡ weights_of servers.now n }
 {
-    if a < b { b } else { a }
-}
-
-// Both numbers of the first n weights, which are read in place: a call for each server would copy the array.
-pub fn weights_of(servers: [Server; 64], n: u32) -> Weights
-    requires { n ≤ 64 }
-    ensures { result ≡ weights_of servers n }
-{
-    let mut largest = 0;
-    let mut divisor = 0;
-    for i in 0..n {
-        let no = ServerNo(i);
-        let at = no.0 as usize;
-        let server = servers[at];
-        largest = greater(largest, server.weight);
-        divisor = gcd(server.weight, divisor);
-    }
-    Weights { largest, divisor }
+    let none = Weights {
+        largest: 0,
+        divisor: 0,
+    };
+    servers.iter().take(n as usize).fold(
+        none,
+        |so_far, server| Weights {
+            largest: so_far.largest.max(server.weight),
+            divisor: gcd(server.weight, so_far.divisor),
+        },
+    )
 }
 
 // Whether the numbers held are those that the weights give.
-pub fn weights_agree(held: Weights, servers: [Server; 64], n: u32) -> bool
-    requires { n ≤ 64 }
-    ensures { result ≡ weights_agree held servers n }
+pub fn weights_agree(held: Weights, servers: &[Server; 64], n: u32) -> bool
+    ensures { result ≡ weights_agree held servers.now n }
 {
-    let given = weights_of(servers, n);
-    (held.largest == given.largest) & (held.divisor == given.divisor)
+    held == weights_of(servers, n)
 }
 
 // Whether every weight is 0, by the numbers held (refusal 14).

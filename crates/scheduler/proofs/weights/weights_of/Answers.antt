@@ -1,20 +1,18 @@
--- `weights::weights_of` meets its contract. The loop's invariant: the two numbers are those of the weights passed. The measure is what is left of n.
+-- `weights::weights_of` meets its contract: the chain folds both numbers over the first n servers.
+use mathlib.Core.Path.{◌≡◌, ◌∙◌}
 use borrow.Author.Rules.{rules}
-use Rattle.lists.proofs.Folds.{fold_none, fold_next, fold_done}
+use borrow.Author.Tests.{tests}
+use lib.ListN.{take}
+use Rattle.std.specs.List.{fold}
+use Rattle.std.proofs.lemmas.Iterator.{YieldsList-from_slice, YieldsList-from_take}
+use Rattle.std.proofs.lemmas.Iterator.Consumers.{fold_from_yields_List}
+use Rattle.scheduler.proofs.Folding.{with_server, no_weights, weights_chained}
 use Rattle.scheduler.proofs.weights.weights_of.Goals as goal
-
-pub loop-i-init : goal.loop-i-init
-loop-i-init c = (search rules, simp fold_none, simp fold_none)
-
-pub loop-i-preserved : goal.loop-i-preserved
-loop-i-preserved c =
-    let l = c.loop-i in (
-      search rules,
-      simp (c.greater-largest.ensures, l.invariant.1, fold_next),
-      simp (c.gcd-divisor.ensures, l.invariant.2, fold_next),
-    )
 
 pub returns : goal.returns
 returns c =
-    let l = c.loop-i in
-    simp (fold_done _ _ (l.invariant.0, l.invariant.1) c.loop-i-test.false, fold_done _ _ (l.invariant.0, l.invariant.2) c.loop-i-test.false)
+    let s = c.args.servers.now in
+    let found : c.fold.result ≡ fold with_server no_weights (take c.args.n s) =
+        fold_from_yields_List _ with_server no_weights c.fold.result c.fold.ensures.ran (YieldsList-from_take c.args.n (YieldsList-from_slice s cc) cc)
+        (λ a x b q k. search (rules, tests)) in
+    found ∙ weights_chained s c.args.n

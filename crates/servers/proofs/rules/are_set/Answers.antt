@@ -1,18 +1,20 @@
--- `servers::rules::are_set` meets its contract. The invariant: the servers before i are set.
-use mathlib.Core.Path.{sym, ◌∙◌}
+-- `servers::rules::are_set` meets its contract: the chain's test of the first n servers is that of the places below n.
+use mathlib.Core.Path.{◌≡◌, ◌∙◌}
 use native.Mathlib.Omega.{arith}
 use borrow.Author.Rules.{rules}
-use Rattle.lists.proofs.Numbers.{all_none, all_next, all_done, all_fails}
+use Rattle.std.proofs.lemmas.Iterator.{YieldsList-from_slice}
+use Rattle.std.proofs.lemmas.Iterator.Search.{all_from_yields_List}
+use borrow.Author.Tests.{tests}
+use lib.ListN.{take}
+use Rattle.std.specs.List.{list_all}
+use Rattle.lists.proofs.Chains.{all_first}
+use Rattle.servers.specs.Servers.{unused}
+use Rattle.servers.specs.Rules.{is_set}
 use Rattle.servers.proofs.rules.are_set.Goals as goal
 
-pub loop-i-init : goal.loop-i-init
-loop-i-init c = (search rules, all_none _)
-
-pub returns-then-not-is_set : goal.returns-then-not-is_set
-returns-then-not-is_set c = all_fails _ _ c.loop-i.i (omega arith) (sym c.is_set.ensures ∙ c.if-not-is_set.true)
-
-pub loop-i-preserved : goal.loop-i-preserved
-loop-i-preserved c = (search rules, all_next _ _ c.loop-i.invariant.1 (sym c.is_set.ensures ∙ c.if-not-is_set.false))
-
 pub returns : goal.returns
-returns c = all_done _ c.loop-i.invariant.0 (omega arith) c.loop-i.invariant.1
+returns c =
+    let s = c.args.servers.now in
+    let found : c.all.result ≡ list_all is_set (take c.args.n s) =
+    all_from_yields_List is_set _ _ _ c.all.ensures.ran (YieldsList-from_slice (take c.args.n s) cc) (λ x b q k. search (rules, tests)) in
+    found ∙ all_first is_set s unused c.args.n (omega arith)

@@ -1,22 +1,18 @@
--- `servers::tally::counts_agree` meets its contract. The invariant: the counts of the servers before i agree.
-use native.Mathlib.Omega.{arith}
+-- `servers::tally::counts_agree` meets its contract: the chain compares the places of the servers and of the counts side by side.
+use mathlib.Core.Path.{◌≡◌, ◌∙◌}
 use borrow.Author.Rules.{rules}
-use borrow.Author.Tests.{eq-eqb, ne_eqb}
-use Rattle.lists.proofs.Numbers.{all_none, all_next, all_done, all_fails}
+use Rattle.std.proofs.lemmas.Iterator.{YieldsList-from_slice, YieldsList-from_zip, YieldsList-from_take}
+use Rattle.std.proofs.lemmas.Iterator.Search.{all_from_yields_List}
+use borrow.Author.Tests.{tests}
+use lib.ListN.{take}
+use Rattle.std.specs.List.{list_all, zip}
+use Rattle.servers.proofs.Chains.{agrees, agree_below}
 use Rattle.servers.proofs.tally.counts_agree.Goals as goal
 
-pub loop-i-init : goal.loop-i-init
-loop-i-init c = (search rules, all_none _)
-
-pub returns-then-server-counted : goal.returns-then-server-counted
-returns-then-server-counted c =
-    let l = c.loop-i in
-    all_fails _ _ l.i (omega arith) (rw (← c.counted.ensures) (ne_eqb _ _ c.if-server-counted.true))
-
-pub loop-i-preserved : goal.loop-i-preserved
-loop-i-preserved c =
-    let l = c.loop-i in
-    (search rules, all_next _ _ l.invariant.1 (rw (← c.counted.ensures) (eq-eqb _ _ c.if-server-counted.false)))
-
 pub returns : goal.returns
-returns c = all_done _ c.loop-i.invariant.0 (omega arith) c.loop-i.invariant.1
+returns c =
+    let s = c.args.servers.now in
+    let counts = c.args.counts.now in
+    let found : c.all.result ≡ list_all agrees (take c.args.n (zip s counts)) =
+    all_from_yields_List agrees c.all.new.self _ _ c.all.ensures.ran (YieldsList-from_take c.args.n (YieldsList-from_zip (YieldsList-from_slice s cc) (YieldsList-from_slice counts cc)) cc) (λ x b q k. search (rules, tests)) in
+    found ∙ agree_below counts s c.args.n (search rules)
