@@ -14,7 +14,7 @@ pub fn open_slot(row: &mut [u32], k: SlotNo, address: u32, port: u16, no: Server
     let slot = Slot {
         phase: 1,
         address,
-        port: port as u32,
+        port: u32::from(port),
         server: no,
         seen: clock,
     };
@@ -26,14 +26,10 @@ pub fn touch_slot(row: &mut [u32], k: SlotNo, phase: u32, clock: u32)
     requires { IsRow row.old × (k.0 < length row.old / words_per_slot) }
     ensures { row.new ≡ words (touched (slots row.old) k.0 phase clock) }
 {
-    let old = slot_at(row, k);
-    let server = old.server;
     let slot = Slot {
         phase,
-        address: old.address,
-        port: old.port,
-        server,
         seen: clock,
+        ..slot_at(row, k)
     };
     put_slot(row, k, slot);
 }
@@ -43,12 +39,5 @@ pub fn free_slot(row: &mut [u32], k: SlotNo)
     requires { IsRow row.old × (k.0 < length row.old / words_per_slot) }
     ensures { row.new ≡ words (freed (slots row.old) k.0) }
 {
-    let free = Slot {
-        phase: 0,
-        address: 0,
-        port: 0,
-        server: ServerNo(0),
-        seen: 0,
-    };
-    put_slot(row, k, free);
+    put_slot(row, k, Slot::FREE);
 }

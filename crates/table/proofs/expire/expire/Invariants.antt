@@ -4,4 +4,4 @@ use Rattle.table.proofs.Expiry.{Expiring}
 use Rattle.table.proofs.expire.expire.Given as goal
 
 abbrev pub invariant-loop-k : goal.invariant-loop-k
-invariant-loop-k l = (l.k ≤ l.end) × Expiring l.protocol l.n l.clock l.initial.row l.initial.after l.row l.after l.removed l.k
+invariant-loop-k l = (l.k ≤ l.k-end) × Expiring l.protocol l.n l.clock l.initial.row l.initial.servers l.row l.servers l.removed l.k

@@ -1,26 +1,11 @@
--- `find::find_free` meets its contract. The invariant: the slots before k do not answer (`Passed`).
-use mathlib.Core.Path.{sym, ◌∙◌}
+-- `find::find_free` meets its contract: the first place whose words are a free slot is the lowest free slot (`first_position`).
+use Rattle.std.proofs.lemmas.Grind.{common_steps}
 use native.Mathlib.Omega.{arith}
-use Rattle.table.proofs.Search.{start, hit, miss, none}
+use Rattle.table.specs.Slots.{slots, is_unused}
+use Rattle.table.proofs.Finding.{first_position}
 use Rattle.table.proofs.find.find_free.Goals as goal
 
-pub loop-k-init : goal.loop-k-init
-loop-k-init c = (omega arith, start)
-
-pub is_unused_at-requires : goal.is_unused_at-requires
-is_unused_at-requires c = omega arith
-
-pub returns-then-is_unused_at : goal.returns-then-is_unused_at
-returns-then-is_unused_at c = hit c.loop-k.invariant.1 (omega arith) (sym c.is_unused_at.ensures ∙ c.if-is_unused_at.true)
-
-pub overflow_step-k : goal.overflow_step-k
-overflow_step-k c = omega arith
-
-pub loop-k-smaller : goal.loop-k-smaller
-loop-k-smaller c = omega arith
-
-pub loop-k-preserved : goal.loop-k-preserved
-loop-k-preserved c = (omega arith, miss c.loop-k.invariant.1 (omega arith) (sym c.is_unused_at.ensures ∙ c.if-is_unused_at.false))
-
 pub returns : goal.returns
-returns c = none c.loop-k.invariant.1 (omega arith)
+returns c =
+    let same = first_position is_unused c.slots_of.result.now (slots c.args.row.now) c.slots_of.ensures in
+    grind (arith, common_steps, same)

@@ -1,20 +1,17 @@
--- `slot::put_slot` meets its contract: five stores are one slot stored (`store`), in a row of whole slots (`exactly`).
+-- `slot::put_slot` meets its contract: five words stored are one slot stored (`store`), in a row of whole slots (`exactly`).
+use Prim.Native.Nat.{ℕ, ◌+◌, ◌-◌, ◌*◌, ◌%◌}
+use mathlib.Core.Path.{◌≡◌}
 use native.Mathlib.Omega.{arith}
-use lib.ListN.{length-set}
+use lib.ListN.{length, length-append, length-take, length-drop}
+use borrow.Rule.Slice.PartMut.{put_mid}
+use Rattle.table.specs.Slots.{words_per_slot, words_of}
 use Rattle.table.proofs.Rows.{exactly, store}
 use Rattle.table.proofs.slot.put_slot.Goals as goal
 
-pub bounds-row-at-2 : goal.bounds-row-at-2
-bounds-row-at-2 c = simp length-set (omega arith)
-
-pub bounds-row-at-3 : goal.bounds-row-at-3
-bounds-row-at-3 c = simp length-set (omega arith)
-
-pub bounds-row-at-4 : goal.bounds-row-at-4
-bounds-row-at-4 c = simp length-set (omega arith)
-
-pub bounds-row-at-5 : goal.bounds-row-at-5
-bounds-row-at-5 c = simp length-set (omega arith)
-
 pub returns : goal.returns
-returns c = exactly _ _ (simp length-set (omega arith)) (store _ _ _ (omega arith))
+returns c =
+    let at : ℕ = words_per_slot * c.args.k.0 in
+    let five : at + words_per_slot - at ≡ words_per_slot = omega arith in
+    let copied : c.copy_from_slice.new.self ≡ words_of c.args.s = cc in
+    let whole : length (put_mid at words_per_slot c.args.row.now (words_of c.args.s)) % words_per_slot ≡ 0 = simp (length-append, length-take, length-drop) (omega arith) in
+    rw (five, copied) (exactly _ _ whole (store c.args.row.now c.args.k.0 c.args.s (omega arith)))

@@ -1,7 +1,11 @@
--- `slot::slot_at` meets its contract: five words are one slot read (`read`).
+-- `slot::slot_at` meets its contract: the k-th array of words is slot k (`chunk_slot`).
+use mathlib.Core.Path.{◌∙◌}
 use native.Mathlib.Omega.{arith}
-use Rattle.table.proofs.Rows.{read}
+use Rattle.table.proofs.Rows.{chunk_slot, length-chunks}
 use Rattle.table.proofs.slot.slot_at.Goals as goal
 
+pub bounds-slots_of-k : goal.bounds-slots_of-k
+bounds-slots_of-k c = omega (arith, length-chunks c.args.row.now _ c.slots_of.ensures)
+
 pub returns : goal.returns
-returns c = read _ _ (omega arith)
+returns c = c.from.ensures ∙ (chunk_slot c.args.row.now c.slots_of.result.now c.args.k.0 c.slots_of.ensures (omega (arith, length-chunks c.args.row.now _ c.slots_of.ensures))).1

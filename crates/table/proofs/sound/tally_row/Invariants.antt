@@ -1,8 +1,7 @@
--- `sound::tally_row` meets its contract. The invariant: the slots before k are sound, and counted (`Tallying`).
-use Prim.Native.Nat.{◌≤◌}
+-- `sound::tally_row` meets its contract. The invariant: the slots before this one are sound, and counted (`Tallying`).
 use Rattle.table.specs.Sound.{slot_sound}
 use Rattle.table.proofs.Tallies.{Tallying}
 use Rattle.table.proofs.sound.tally_row.Given as goal
 
-abbrev pub invariant-loop-k : goal.invariant-loop-k
-invariant-loop-k l = (l.k ≤ l.end) × Tallying (slot_sound l.protocol l.n l.clock) l.row l.counts l.k
+abbrev pub invariant-loop-words : goal.invariant-loop-words
+invariant-loop-words l = Tallying (slot_sound l.protocol l.n l.clock) l.row l.counts l.words-index
