@@ -25,8 +25,7 @@ pub fn replica(address: u32, weight: u16) -> Server {
 
 // Two servers of weight 1.
 pub fn replicas() -> [Server; 64] {
-    let none = unused();
-    let mut servers = [none; 64];
+    let mut servers = [unused(); 64];
     servers[0] = replica(FIRST, 1);
     servers[1] = replica(SECOND, 1);
     servers
@@ -45,11 +44,9 @@ pub fn service(n: u32) -> Service {
 
 // A state to begin with: setup doesn't judge it.
 pub fn blank() -> Director {
-    let none = service(0);
-    let servers = replicas();
     Director {
-        service: none,
-        servers,
+        service: service(0),
+        servers: replicas(),
         weights: Weights {
             largest: 0,
             divisor: 0,

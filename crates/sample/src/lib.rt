@@ -1,7 +1,7 @@
-// What the programs share: packets to try a director with, a state to begin with, and answers as text.
+// What the programs share: packets to try a director with, a director and its row to begin with, and answers as text.
 #![tactic(auto)]
 
 pub mod begin;
 pub mod frame;
+pub mod instance;
 pub mod print;
-pub mod send;
