@@ -1,5 +1,6 @@
 -- When a state and its book agree: the used slots are the entries, no client has two, and the servers are where the settings have them. What
 -- each change of the state does to the book keeps it so. Assumes nothing.
+use Rattle.std.specs.Prelude.{None}
 use Prim.Native.Nat.{ℕ, ◌<◌, ◌≤◌}
 use mathlib.Core.Bool.{Bool, true, false, not}
 use mathlib.Core.List.{List, [], ◌∷◌, map}
@@ -16,7 +17,6 @@ use Rattle.servers.proofs.Kept.{ends_set}
 use Rattle.servers.proofs.Freshness.{fresh_ends}
 use Rattle.scheduler.specs.declared.walk.Walk.{Walk}
 use Rattle.table.specs.declared.slot.Slot.{Slot}
-use Rattle.table.specs.declared.find.Found.{Found}
 use Rattle.table.specs.Slots.{slots, zeroed, free_slot, is_unused}
 use Rattle.table.specs.Find.{of_client as slot_of_client, first_from, Unique}
 use Rattle.table.specs.Expire.{is_idle, lowered_by}
@@ -116,7 +116,7 @@ module _ (d : Director) (l : List Slot) (given : List Server) (es : List Entry) 
 
   -- 5. A connection is opened
   pub matches_opened : (m : Segment) (k i : ℕ) (walk : Walk) → k < length l → is_unused (get_or l k free_slot) ≡ true
-      → first_from (slot_of_client m.address m.port) 0 l ≡ Found.Nothing
+      → first_from (slot_of_client m.address m.port) 0 l ≡ None
       → Matches (with_servers d (raised d.servers i) walk) (opened l k m.address m.port i d.clock) given (new_entry m i d.clock ∷ es)
   matches_opened m k i walk h free none = record {
     same = same_opened l es k m.address m.port i d.clock h free t.same;

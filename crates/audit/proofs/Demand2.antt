@@ -10,7 +10,6 @@ use lib.Dec.{ltb}
 use lib.ListN.{take, drop}
 use Rattle.checksum.specs.Ones.{Bytes}
 use Rattle.packet.specs.declared.read.Packet.{Packet}
-use Rattle.packet.specs.declared.read.Reading.{Reading}
 use Rattle.packet.specs.declared.redirect.Side.{Side}
 use Rattle.packet.specs.Bytes.{total_length}
 use Rattle.packet.specs.Reading.{read_packet}
@@ -60,7 +59,7 @@ use Rattle.audit.proofs.Rewriting.{rewritten}
 -- 1. Bytes past the total length
 
 -- a packet that was taken, sent on: its bytes past the total length stay, and the others are what they are whatever stands there
-module _ (g : Service) (v : Server) (p p' : List ℕ) (r : Packet) (taken : read_packet g.protocol p ≡ Reading.Taken r) (same : SameUpToTotal p p') where
+module _ (g : Service) (v : Server) (p p' : List ℕ) (r : Packet) (taken : read_packet g.protocol p ≡ Ok r) (same : SameUpToTotal p p') where
   sent_past : (sender : Sender)
       → (drop (total_length p) (sent_on g v p sender) ≡ drop (total_length p) p)
       × (take (total_length p) (sent_on g v p' sender) ≡ take (total_length p) (sent_on g v p sender))
@@ -86,7 +85,7 @@ module _ (d : Director) (p p' : List ℕ) (same : SameUpToTotal p p') where
         Alike (total_length p) (in_words (passed d' (lent l p) m i change)) (in_words (passed d' (lent l p') m i change))
     passed_alike servers walk l i change =
         let from = read_from d p m way seen in
-        let taken : read_packet present.service.protocol p ≡ Reading.Taken from.packet = rw service from.taken in
+        let taken : read_packet present.service.protocol p ≡ Ok from.packet = rw service from.taken in
         record {
           answer = refl;
           director = refl;

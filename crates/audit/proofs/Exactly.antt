@@ -1,5 +1,6 @@
 -- Each call gives the number of the lowest-placed of its tests that fails, and 0 where none does. Assumes nothing.
-use Rattle.std.specs.Prelude.{Ok, Err}
+use Rattle.std.specs.Prelude.{Ok, Err, Some, None, Result as ResultOf}
+use Rattle.packet.specs.declared.read.TransportHeader.{TransportHeader}
 use Prim.Native.Nat.{ℕ, ◌<◌}
 use mathlib.Core.Bool.{Bool, true, false, cond, not, ◌&&◌, ◌||◌}
 use mathlib.Core.List.{List, []}
@@ -11,22 +12,17 @@ use lib.ListN.{length, get_or}
 use Rattle.lists.proofs.Cases.{truth}
 use Rattle.packet.specs.declared.read.Fault.{Fault}
 use Rattle.packet.specs.declared.read.Flags.{Flags}
-use Rattle.packet.specs.declared.read.HeaderReading.{HeaderReading}
-use Rattle.packet.specs.declared.read.Reading.{Reading}
-use Rattle.packet.specs.declared.read.Transport.{Transport}
 use Rattle.checksum.specs.Ones.{word_at}
 use Rattle.packet.specs.Bytes.{address_at, payload}
 use Rattle.packet.specs.Reading.{broken, header_verifies, fragment, tcp_malformed, udp_malformed, flags_of, no_flags, header_of, ports_of, packet_with, read_transport, with_transport, read_payload, on_header, read_packet}
 use Rattle.servers.specs.declared.Server.{Server}
 use Rattle.servers.specs.declared.ServerNo.{ServerNo}
-use Rattle.servers.specs.declared.Found.{Found}
 use Rattle.servers.specs.declared.rules.Rule.{Rule}
 use Rattle.servers.specs.Rules.{all_keep, is_nobody, number_of}
 use Rattle.scheduler.specs.declared.walk.Walk.{Walk}
 use Rattle.scheduler.specs.Weights.{none_weighs, no_weight}
 use Rattle.table.specs.declared.slot.Slot.{Slot}
 use Rattle.table.specs.declared.slot.SlotNo.{SlotNo}
-use Rattle.table.specs.declared.find.Found.{Found as FoundSlot}
 use Rattle.table.specs.Slots.{slots, words, free_slot, is_unused}
 use Rattle.table.specs.Find.{of_client, first_from}
 use Rattle.table.specs.Changes.{freed}
@@ -248,10 +244,10 @@ module _ (way : Way) (d : Director) (row p : List ℕ) (now : ℕ) (sound : soun
   on_endpoint Way.Outbound flags = by_number (number_of d.servers (address_at p 12) (word_at (payload p) 0) g.servers)
     where
       by_number : (f : Found) → let s = on_number (packet_with (header_of p) (ports_of (payload p) flags)) f in number s ≡ cond (is_nobody f) 10 (later s)
-      by_number Found.Nobody = refl
-      by_number (Found.At i) = on_segment _
+      by_number None = refl
+      by_number (Some i) = on_segment _
 
-  abbrev seen_of : Transport → Read
+  abbrev seen_of : ResultOf TransportHeader Fault → Read
   seen_of t = on_reading way g d.servers (with_transport (header_of p) t)
 
   abbrev past9 : Read → ℕ
@@ -262,7 +258,7 @@ module _ (way : Way) (d : Director) (row p : List ℕ) (now : ℕ) (sound : soun
   on_transport = by_tests (eqb g.protocol 6) (tcp_malformed (payload p)) (udp_malformed (payload p))
     where
       by_tests : (tcp a b : Bool)
-          → let s = seen_of (cond tcp (cond a Transport.Malformed (Transport.Carried (ports_of (payload p) (flags_of (get_or (payload p) 13 0))))) (cond b Transport.Malformed (Transport.Carried (ports_of (payload p) no_flags)))) in
+          → let s = seen_of (cond tcp (cond a (Err Fault.MalformedTransport) (Ok (ports_of (payload p) (flags_of (get_or (payload p) 13 0))))) (cond b (Err Fault.MalformedTransport) (Ok (ports_of (payload p) no_flags)))) in
           number s ≡ cond (cond tcp a b) 9 (past9 s)
       by_tests true true b = refl
       by_tests true false b = on_endpoint way _
@@ -270,14 +266,14 @@ module _ (way : Way) (d : Director) (row p : List ℕ) (now : ℕ) (sound : soun
       by_tests false a false = on_endpoint way _
 
   -- 8
-  on_own : (own : Bool) → let s = on_reading way g d.servers (cond (not own) (Reading.Refused Fault.OtherProtocol) (read_payload g.protocol (header_of p) p)) in
+  on_own : (own : Bool) → let s = on_reading way g d.servers (cond (not own) (Err Fault.OtherProtocol) (read_payload g.protocol (header_of p) p)) in
       number s ≡ cond (not own) 8 (cond (transport_malformed g.protocol (payload p)) 9 (past9 s))
   on_own false = refl
   on_own true = on_transport
 
   -- 6, 20 and 7
   on_header_lem : (a v b : Bool)
-      → let s = on_reading way g d.servers (on_header g.protocol p (cond a (HeaderReading.Refused Fault.MalformedHeader) (cond (not v) (HeaderReading.Refused Fault.BadChecksum) (cond b (HeaderReading.Refused Fault.Fragment) (HeaderReading.Read (header_of p)))))) in
+      → let s = on_reading way g d.servers (on_header g.protocol p (cond a (Err Fault.MalformedHeader) (cond (not v) (Err Fault.BadChecksum) (cond b (Err Fault.Fragment) (Ok (header_of p)))))) in
       number s ≡ cond a 6 (cond (not v) 20 (cond b 7 (cond (not (eqb (get_or p 9 0) g.protocol)) 8 (cond (transport_malformed g.protocol (payload p)) 9 (past9 s)))))
   on_header_lem true v b = refl
   on_header_lem false false b = refl

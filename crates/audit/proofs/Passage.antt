@@ -1,6 +1,7 @@
 -- What a packet says does not change with the servers' weights and counts; and an accepted packet, sent on, goes between its client and the
 -- server that the answer names. Assumes nothing.
-use Rattle.std.specs.Prelude.{Ok}
+use Rattle.std.specs.Prelude.{Ok, Err, Some, Result}
+use Rattle.packet.specs.declared.read.Fault.{Fault}
 use Prim.Native.Nat.{ℕ, ◌<◌}
 use mathlib.Core.Bool.{true}
 use mathlib.Core.List.{List}
@@ -10,14 +11,12 @@ use lib.Dec.{eqb}
 use Rattle.lists.proofs.Cases.{both}
 use Rattle.checksum.specs.Ones.{Bytes}
 use Rattle.packet.specs.declared.read.Packet.{Packet}
-use Rattle.packet.specs.declared.read.Reading.{Reading}
 use Rattle.packet.specs.declared.redirect.Side.{Side}
 use Rattle.packet.specs.Reading.{read_packet}
 use Rattle.packet.specs.Laws.{Given, with_side}
 use Rattle.packet.proofs.Redirections.{laws}
 use Rattle.servers.specs.declared.Server.{Server}
 use Rattle.servers.specs.declared.ServerNo.{ServerNo}
-use Rattle.servers.specs.declared.Found.{Found}
 use Rattle.servers.specs.Servers.{server_at}
 use Rattle.servers.specs.Rules.{number_of}
 use Rattle.servers.proofs.Ends.{SameEnds, number_same}
@@ -42,10 +41,10 @@ pub read_same : (way : Way) (g : Service) (s t : List Server) (p : List ℕ) →
 unfolding segment_read
 read_same way g s t p same = by_reading way (read_packet g.protocol p)
   where
-    by_reading : (way : Way) (r : Reading) → on_reading way g s r ≡ on_reading way g t r
-    by_reading way (Reading.Refused fault) = refl
-    by_reading Way.Inbound (Reading.Taken r) = refl
-    by_reading Way.Outbound (Reading.Taken r) = ap (on_number r) (number_same s t g.servers r.source r.transport.source same)
+    by_reading : (way : Way) (r : Result Packet Fault) → on_reading way g s r ≡ on_reading way g t r
+    by_reading way (Err fault) = refl
+    by_reading Way.Inbound (Ok r) = refl
+    by_reading Way.Outbound (Ok r) = ap (on_number r) (number_same s t g.servers r.source r.transport.source same)
 
 -- 2. Where it goes
 
@@ -57,7 +56,7 @@ module _ (d : Director) (given : List Server) (clock : ℕ) (es : List Entry) (f
       belongs m.sender (record { 0 = k }) ≡ true
       → Goes way (record { service = d.service; servers = given; clock = clock; entries = es }) m k p (forwarded d k p m.sender)
 
-  module _ (r : Packet) (taken : read_packet d.service.protocol p ≡ Reading.Taken r) where
+  module _ (r : Packet) (taken : read_packet d.service.protocol p ≡ Ok r) where
     inbound : Goal Way.Inbound (record { address = r.source; port = r.transport.source; sender = Sender.Client; flags = r.transport.flags })
     inbound mine =
         let protocol = d.service.protocol in
@@ -77,7 +76,7 @@ module _ (d : Director) (given : List Server) (clock : ℕ) (es : List Entry) (f
           between = record { from_address = refl; from_port = refl; to_address = same.address k exists; to_port = same.port k exists };
         }
 
-    outbound : (i : ServerNo) → number_of given r.source r.transport.source d.service.servers ≡ Found.At i
+    outbound : (i : ServerNo) → number_of given r.source r.transport.source d.service.servers ≡ Some i
         → Goal Way.Outbound (record { address = r.destination; port = r.transport.destination; sender = Sender.Server i; flags = r.transport.flags })
     outbound i number mine =
         let g = d.service in

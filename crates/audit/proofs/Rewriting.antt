@@ -1,5 +1,5 @@
 -- An accepted packet leaves as demand 2 says: read again, its checksums, and every byte that is not set. Assumes nothing.
-use Rattle.std.specs.Prelude.{Ok}
+use Rattle.std.specs.Prelude.{Ok, Some}
 use Prim.Native.Nat.{ℕ, ◌<◌}
 use mathlib.Core.Bool.{true, not, ◌&&◌}
 use mathlib.Core.List.{List}
@@ -11,14 +11,12 @@ use Rattle.lists.proofs.Cases.{both}
 use Rattle.lists.proofs.Numbers.{all_below_lem}
 use Rattle.checksum.specs.Ones.{Bytes}
 use Rattle.packet.specs.declared.read.Packet.{Packet}
-use Rattle.packet.specs.declared.read.Reading.{Reading}
 use Rattle.packet.specs.Reading.{read_packet}
 use Rattle.packet.specs.Redirect.{redirected}
 use Rattle.packet.specs.Laws.{Given, VerifiesExactly, LeavesFresh, Kept, with_side}
 use Rattle.packet.proofs.Redirections.{laws}
 use Rattle.servers.specs.declared.Server.{Server}
 use Rattle.servers.specs.declared.ServerNo.{ServerNo}
-use Rattle.servers.specs.declared.Found.{Found}
 use Rattle.servers.specs.declared.rules.Rule.{Rule}
 use Rattle.servers.specs.Servers.{server_at}
 use Rattle.servers.specs.Rules.{keeps, number_of}
@@ -65,7 +63,7 @@ module _ (d : Director) (row p : List ℕ) (a : Accepted d.service d.servers row
   abbrev Goal : Way → Segment → Type 0
   Goal way m = Rewritten way d k p (sent_on g (server_at servers k) p m.sender)
 
-  module _ (r : Packet) (taken : read_packet g.protocol p ≡ Reading.Taken r) where
+  module _ (r : Packet) (taken : read_packet g.protocol p ≡ Ok r) where
     by_side : (way : Way) → (q : List ℕ) → redirected g.protocol (side_set way) (address_set way d k) (port_set way d k) p ≡ q
         → (address_set way d k < 4294967296) × (port_set way d k < 65536) → (0 < address_set way d k) × (0 < port_set way d k) → Rewritten way d k p q
     by_side way q e (address, port) (some, any) =
@@ -76,7 +74,7 @@ module _ (d : Director) (row p : List ℕ) (a : Accepted d.service d.servers row
         record {
           read_in = r;
           as_in = taken;
-          as_out = subst (λ (x : List ℕ). read_packet protocol x ≡ Reading.Taken (with_side side (address_set way d k) (port_set way d k) r)) e
+          as_out = subst (λ (x : List ℕ). read_packet protocol x ≡ Ok (with_side side (address_set way d k) (port_set way d k) r)) e
               (laws.read_again protocol side (address_set way d k) (port_set way d k) p r to);
           fresh = subst (LeavesFresh protocol p) e (laws.leaves_fresh protocol side (address_set way d k) (port_set way d k) p r to some any);
           exact = subst (VerifiesExactly protocol p) e (laws.verifies_exactly protocol side (address_set way d k) (port_set way d k) p r to);
@@ -86,7 +84,7 @@ module _ (d : Director) (row p : List ℕ) (a : Accepted d.service d.servers row
     inbound : Goal Way.Inbound (record { address = r.source; port = r.transport.source; sender = Sender.Client; flags = r.transport.flags })
     inbound = by_side Way.Inbound _ (rw (same.address k exists, same.port k exists)) (fits.2 k) (server-set g d.servers row a k exists)
 
-    outbound : (i : ServerNo) → number_of d.servers r.source r.transport.source g.servers ≡ Found.At i
+    outbound : (i : ServerNo) → number_of d.servers r.source r.transport.source g.servers ≡ Some i
         → Goal Way.Outbound (record { address = r.destination; port = r.transport.destination; sender = Sender.Server i; flags = r.transport.flags })
     outbound i number = by_side Way.Outbound _ refl (fits.0, fits.1) (virtual_set g d.servers row a)
 

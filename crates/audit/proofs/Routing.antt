@@ -1,6 +1,6 @@
 -- A packet that got past 11: whatever is decided of it, by the decision's reasons, the state and the book agree afterwards, and what the claim
 -- says of it holds. Assumes nothing.
-use Rattle.std.specs.Prelude.{Ok}
+use Rattle.std.specs.Prelude.{Ok, Some, None, Option}
 use Prim.Native.Nat.{ℕ, ◌<◌, ◌≤◌}
 use mathlib.Core.Bool.{Bool, true, false, not, ◌&&◌, and-false, true≢false}
 use mathlib.Core.List.{List, [], ◌∷◌}
@@ -20,7 +20,6 @@ use Rattle.servers.specs.declared.ServerNo.{ServerNo}
 use Rattle.scheduler.specs.declared.walk.Walk.{Walk}
 use Rattle.table.specs.declared.slot.Slot.{Slot}
 use Rattle.table.specs.declared.slot.SlotNo.{SlotNo}
-use Rattle.table.specs.declared.find.Found.{Found}
 use Rattle.table.specs.Slots.{slots, slot_at}
 use Rattle.table.specs.Find.{of_client as slot_of_client, first_from}
 use Rattle.table.proofs.Finding.{found_lowest, nothing_passes}
@@ -147,7 +146,7 @@ module _ (d : Director) (row : List ℕ) (given : List Server) (es : List Entry)
         keep_off unfinished (λ e. not (is_renewed m e)) (λ e. not (client e)) (λ e n. rw syn (finished (client e) (e.client_done && e.server_done) n)) es none
 
   -- The client has none
-  module _ (none : first_from (slot_of_client m.address m.port) 0 l ≡ Found.Nothing) where
+  module _ (none : first_from (slot_of_client m.address m.port) 0 l ≡ None) where
     absent : count_of (of_client m.address m.port) es ≡ 0
     absent =
         let client = of_client m.address m.port in
@@ -161,9 +160,9 @@ module _ (d : Director) (row : List ℕ) (given : List Server) (es : List Entry)
     none_struck = keep_off (of_client m.address m.port) (λ e. not (is_renewed m e)) (λ _. true) (λ e n. rw (n, and-false)) es absent ∙ keep_all es
 
   -- table and book agree on whether some connection is the packet's
-  mine_found : (f : Found) → first_from (slot_of_client m.address m.port) 0 l ≡ f → count_of (mine m) es ≡ bit (is_its l m f)
-  mine_found Found.Nothing none = none_mine none
-  mine_found (Found.At k) found = let low = found_lowest (slot_of_client m.address m.port) l k.0 found in mine_is k.0 low.within low.passes
+  mine_found : (f : Option SlotNo) → first_from (slot_of_client m.address m.port) 0 l ≡ f → count_of (mine m) es ≡ bit (is_its l m f)
+  mine_found None none = none_mine none
+  mine_found (Some k) found = let low = found_lowest (slot_of_client m.address m.port) l k.0 found in mine_is k.0 low.within low.passes
 
   stray_is : is_stray b m ≡ not (has_its l m) && not (opens protocol m)
   stray_is = rw (mine_found _ refl, bit_none (has_its l m))

@@ -3,7 +3,6 @@ use Rattle.std.specs.Prelude.{ℕ, ◌+◌, ◌<◌, ◌≤◌, Bool, true, fals
 use Rattle.lists.specs.Tests.{count_of, keep}
 use Rattle.servers.specs.Servers.{server_at, count_at, total_count}
 use Rattle.packet.specs.declared.read.Packet.{Packet}
-use Rattle.packet.specs.declared.read.Reading.{Reading}
 use Rattle.packet.specs.Reading.{read_packet}
 use Rattle.servers.specs.declared.Server.{Server}
 use Rattle.director.specs.declared.state.Service.{Service}
@@ -64,8 +63,8 @@ Between Way.Outbound b m k p q = Outbound b m k p q
 pub record Goes (way : Way) (b : Book) (m : Segment) (k : ℕ) (p q : List ℕ) : Type 0 where
   pub read_in : Packet
   pub read_out : Packet
-  pub as_in : read_packet b.service.protocol p ≡ Reading.Taken read_in
-  pub as_out : read_packet b.service.protocol q ≡ Reading.Taken read_out
+  pub as_in : read_packet b.service.protocol p ≡ Ok read_in
+  pub as_out : read_packet b.service.protocol q ≡ Ok read_out
   pub between : Between way b m k read_in read_out
 
 -- of an accepted packet; the idle entries of b are struck

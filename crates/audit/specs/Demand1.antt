@@ -1,6 +1,7 @@
 -- Demand 1 (SCOPE 13.1): which refusal a call gives, exactly, and what a refused call leaves; of every state, row and packet, sound or not.
 -- Assumes nothing: these are definitions.
-use Rattle.std.specs.Prelude.{ℕ, ◌≤◌, Bool, true, false, cond, not, ◌&&◌, ◌||◌, List, [], ◌∷◌, ◌≡◌, eqb, ltb, get_or, Ok, Err}
+use Rattle.std.specs.Prelude.{ℕ, ◌≤◌, Bool, true, false, cond, not, ◌&&◌, ◌||◌, List, [], ◌∷◌, ◌≡◌, eqb, ltb, get_or, Ok, Err, Some, None, Option}
+use Rattle.table.specs.declared.slot.SlotNo.{SlotNo}
 use Rattle.checksum.specs.Ones.{word_at}
 use Rattle.packet.specs.Bytes.{address_at, payload}
 use Rattle.packet.specs.Reading.{broken, header_verifies, fragment, tcp_malformed, udp_malformed}
@@ -9,7 +10,6 @@ use Rattle.servers.specs.declared.rules.Rule.{Rule}
 use Rattle.servers.specs.Rules.{all_keep, is_nobody, number_of}
 use Rattle.scheduler.specs.Weights.{no_weight}
 use Rattle.table.specs.declared.slot.Slot.{Slot}
-use Rattle.table.specs.declared.find.Found.{Found}
 use Rattle.table.specs.Slots.{slots, words, free_slot, is_unused}
 use Rattle.table.specs.Find.{of_client, first_from}
 use Rattle.director.specs.declared.state.Service.{Service}
@@ -67,14 +67,14 @@ is_elsewhere Way.Inbound g servers p = not (eqb (address_at p 16) g.address && e
 is_elsewhere Way.Outbound g servers p = is_nobody (number_of servers (address_at p 12) (word_at (payload p) 0) g.servers)
 
 -- was a slot found?
-abbrev pub is_present : Found → Bool
-is_present Found.Nothing = false
-is_present (Found.At k) = true
+abbrev pub is_present : Option SlotNo → Bool
+is_present None = false
+is_present (Some k) = true
 
 -- given the lowest slot of a packet's client: does the packet renew the connection in it (SCOPE 8.16)?
-abbrev pub is_renewal : List Slot → Segment → Found → Bool
-is_renewal l m Found.Nothing = false
-is_renewal l m (Found.At k) = renews m (get_or l k.0 free_slot).phase
+abbrev pub is_renewal : List Slot → Segment → Option SlotNo → Bool
+is_renewal l m None = false
+is_renewal l m (Some k) = renews m (get_or l k.0 free_slot).phase
 
 -- 12 to 14, in a state whose clock is stored and whose idle connections are gone; the lowest slot of the client is its connection's (SCOPE 6.7)
 abbrev pub route_tests : Director → List Slot → Segment → List Test

@@ -1,8 +1,8 @@
 -- Demand 2 (SCOPE 13.2): who is picked, and what rewriting makes of a packet; of every packet call. Assumes nothing: these are definitions.
-use Rattle.std.specs.Prelude.{ℕ, Bool, false, cond, List, ◌≡◌, get_or, take, drop, Ok}
+use Rattle.std.specs.Prelude.{ℕ, Bool, false, cond, List, ◌≡◌, get_or, take, drop, Ok, Some, None, Option}
+use Rattle.table.specs.declared.slot.SlotNo.{SlotNo}
 use Rattle.checksum.specs.Ones.{Bytes}
 use Rattle.packet.specs.declared.read.Packet.{Packet}
-use Rattle.packet.specs.declared.read.Reading.{Reading}
 use Rattle.packet.specs.declared.redirect.Side.{Side}
 use Rattle.packet.specs.Bytes.{total_length}
 use Rattle.packet.specs.Reading.{read_packet}
@@ -12,7 +12,6 @@ use Rattle.servers.specs.declared.ServerNo.{ServerNo}
 use Rattle.servers.specs.Servers.{server_at, lowered}
 use Rattle.scheduler.specs.Laws.{Published}
 use Rattle.table.specs.declared.slot.Slot.{Slot}
-use Rattle.table.specs.declared.find.Found.{Found}
 use Rattle.table.specs.Slots.{slots, free_slot}
 use Rattle.table.specs.Find.{of_client, first_from}
 use Rattle.director.specs.declared.state.Director.{Director}
@@ -47,8 +46,8 @@ port_set Way.Outbound d k = d.service.port
 pub record Rewritten (way : Way) (d : Director) (k : ℕ) (p q : List ℕ) : Type 0 where
   -- it was read, and is read again with that address and port, and all else as it was
   pub read_in : Packet
-  pub as_in : read_packet d.service.protocol p ≡ Reading.Taken read_in
-  pub as_out : read_packet d.service.protocol q ≡ Reading.Taken (with_side (side_set way) (address_set way d k) (port_set way d k) read_in)
+  pub as_in : read_packet d.service.protocol p ≡ Ok read_in
+  pub as_out : read_packet d.service.protocol q ≡ Ok (with_side (side_set way) (address_set way d k) (port_set way d k) read_in)
   -- "A valid checksum leaves as a fresh calculation would give it." (SCOPE 7.8)
   pub fresh : LeavesFresh d.service.protocol p q
   -- "the outgoing one verifies exactly if the incoming one did (UDP 0 apart)" (SCOPE 7.7)
@@ -73,9 +72,9 @@ opens (Answer.Passed i change) = is_opened change
 opens (Answer.Refused why) = false
 
 -- given the lowest slot of a packet's client: the servers that the pick sees. "The pick sees the count after the old one is taken off" (SCOPE 8.17)
-abbrev pub at_pick : Director → List Slot → Segment → Found → List Server
-at_pick d l m Found.Nothing = d.servers
-at_pick d l m (Found.At k) = let s = get_or l k.0 free_slot in cond (renews m s.phase) (lowered d.servers s.server.0) d.servers
+abbrev pub at_pick : Director → List Slot → Segment → Option SlotNo → List Server
+at_pick d l m None = d.servers
+at_pick d l m (Some k) = let s = get_or l k.0 free_slot in cond (renews m s.phase) (lowered d.servers s.server.0) d.servers
 
 -- in a state d and its slots, with the clock stored and the idle connections removed
 abbrev pub seen_by_pick : Director → List Slot → Segment → List Server

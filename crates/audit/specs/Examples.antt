@@ -1,9 +1,9 @@
 -- The examples P1 to P11 (SCOPE section 11) as one table: what the written rules give, beside what SCOPE prints. Assumes nothing: these are definitions.
-use Rattle.std.specs.Prelude.{ℕ, zero, suc, List, [], ◌∷◌, ◌++◌, length, replicate}
+use Rattle.std.specs.Prelude.{ℕ, zero, suc, List, [], ◌∷◌, ◌++◌, length, replicate, Some, None, Option}
+use Rattle.servers.specs.declared.ServerNo.{ServerNo}
 use Rattle.checksum.specs.Ones.{edited}
 use Rattle.packet.specs.Redirect.{sum_written}
 use Rattle.servers.specs.declared.Server.{Server}
-use Rattle.scheduler.specs.declared.walk.Place.{Place}
 use Rattle.scheduler.specs.declared.walk.Walk.{Walk}
 use Rattle.scheduler.specs.Weights.{weights_of}
 use Rattle.scheduler.specs.ByNumber.{start_of, pick_of}
@@ -32,9 +32,9 @@ picks_of k s m = picks k s m (start_of k (length s))
 -- Calls
 
 -- a walk in numbers: 0 for the place -1, else one more than the place; and the level
-abbrev pub placed : Place → ℕ
-placed Place.Start = 0
-placed (Place.At i) = suc i.0
+abbrev pub placed : Option ServerNo → ℕ
+placed None = 0
+placed (Some i) = suc i.0
 
 abbrev pub walked : Walk → List ℕ
 walked w = placed w.place ∷ w.level ∷ []

@@ -1,7 +1,6 @@
 -- Refusal 15: each clause of soundness (SCOPE 6.1 to 6.7, 6.9) in a sound state and in nearest states that are not. Assumes nothing: these are definitions.
-use Rattle.std.specs.Prelude.{ℕ, List, [], ◌∷◌, replicate, set}
+use Rattle.std.specs.Prelude.{ℕ, List, [], ◌∷◌, replicate, set, Some, None}
 use Rattle.servers.specs.declared.Server.{Server}
-use Rattle.scheduler.specs.declared.walk.Place.{Place}
 use Rattle.scheduler.specs.declared.walk.Walk.{Walk}
 use Rattle.scheduler.specs.ByNumber.{start_of}
 use Rattle.table.specs.declared.slot.Slot.{Slot}
@@ -90,10 +89,10 @@ walk_refusal scheduler walk = state_refusal (state_of (service_of 6 scheduler 2)
 
 -- place -1, and place i
 abbrev pub start : (level : ℕ) → Walk
-start level = record { place = Place.Start; level = level }
+start level = record { place = None; level = level }
 
 abbrev pub at : (i level : ℕ) → Walk
-at i level = record { place = Place.At (record { 0 = i }); level = level }
+at i level = record { place = Some (record { 0 = i }); level = level }
 
 abbrev pub walk_cases : List Case
 walk_cases =

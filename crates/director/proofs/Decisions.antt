@@ -1,4 +1,5 @@
 -- What is decided of a packet in a sound state, with its reasons: all that the layers above need to know of a decision. Assumes nothing.
+use Rattle.std.specs.Prelude.{Some, None, Option}
 use Prim.Native.Nat.{ℕ, ◌<◌}
 use mathlib.Core.Bool.{Bool, true, false, cond, not, ◌&&◌, true≢false, false≢true}
 use mathlib.Core.List.{List}
@@ -18,7 +19,6 @@ use Rattle.scheduler.proofs.Largest.{no_weight_lem}
 use Rattle.scheduler.proofs.Picks.{pick_found}
 use Rattle.table.specs.declared.slot.Slot.{Slot}
 use Rattle.table.specs.declared.slot.SlotNo.{SlotNo}
-use Rattle.table.specs.declared.find.Found.{Found}
 use Rattle.table.specs.Slots.{slots, words, free_slot, slot_at, is_unused, is_used}
 use Rattle.table.specs.Find.{of_client, first_from, IsLowest}
 use Rattle.table.specs.Changes.{freed}
@@ -61,7 +61,7 @@ pub record Opening (d : Director) (l : List Slot) (k i : ℕ) (walk : Walk) : Ty
 
 -- opened: the client has no connection, and the packet opens one
 pub record CanOpen (d : Director) (l : List Slot) (m : Segment) (k i : ℕ) (walk : Walk) : Type 0 where
-  pub absent : first_from (of_client m.address m.port) 0 l ≡ Found.Nothing
+  pub absent : first_from (of_client m.address m.port) 0 l ≡ None
   pub opens : opens d.service.protocol m ≡ true
   pub opening : Opening d l k i walk
 
@@ -123,10 +123,10 @@ module _ (d : Director) (l : List Slot) (k : SlotNo) (within : k.0 < length l) w
       by_test (λ (q : Decision). q ≡ Decision.Refuse Refusal.TableFull → ⊥) (none_weighs ended.weights) _ _
       (λ _ e. let z : ◌≡◌ {A = ℕ} 0 1 = cc in omega arith) (λ _ e. let z : ◌≡◌ {A = ℕ} 0 1 = cc in omega arith)
 
-  renewal_room : (f : Found) → first_from is_unused 0 (freed l k.0) ≡ f
+  renewal_room : (f : Option SlotNo) → first_from is_unused 0 (freed l k.0) ≡ f
       → on_room (with_one_less d (get_or l k.0 free_slot).server.0) (Decision.Renew k) f ≡ Decision.Refuse Refusal.TableFull → ⊥
-  renewal_room Found.Nothing none e = freed_found l k.0 within none
-  renewal_room (Found.At j) found e = picked_room (with_one_less d (get_or l k.0 free_slot).server.0) j e
+  renewal_room None none e = freed_found l k.0 within none
+  renewal_room (Some j) found e = picked_room (with_one_less d (get_or l k.0 free_slot).server.0) j e
 
 pub never_full : NeverFull
 unfolding decided
@@ -150,11 +150,11 @@ on_pick d make p some picked = rw (picked, some)
 
 -- an opening in a sound state, whatever is shown of it and made of it
 module _ (d : Director) (row : List ℕ) (sound : Sound d row) (Goal : Decision → Type 0) (make : SlotNo → ServerNo → Walk → Decision)
-    (weightless : Goal (Decision.Refuse Refusal.NoWeight)) (full : first_from is_unused 0 (slots row) ≡ Found.Nothing → Goal (Decision.Refuse Refusal.TableFull))
+    (weightless : Goal (Decision.Refuse Refusal.NoWeight)) (full : first_from is_unused 0 (slots row) ≡ None → Goal (Decision.Refuse Refusal.TableFull))
     (new : (k : SlotNo) (i : ServerNo) (walk : Walk) → Opening d (slots row) k.0 i.0 walk → Goal (make k i walk)) where
-  by_room : (f : Found) → first_from is_unused 0 (slots row) ≡ f → Goal (on_room d make f)
-  by_room Found.Nothing e = full e
-  by_room (Found.At k) e =
+  by_room : (f : Option SlotNo) → first_from is_unused 0 (slots row) ≡ f → Goal (on_room d make f)
+  by_room None e = full e
+  by_room (Some k) e =
       by_test Goal (none_weighs d.weights) _ _ (λ _. weightless)
       (λ some. new k _ _ (record {
         lowest = found_lowest is_unused (slots row) k.0 e;
@@ -175,7 +175,7 @@ module _ (d : Director) (row : List ℕ) (sound : Sound d row) (m : Segment) whe
   Goal = Grounded d l m
 
   -- the client has a connection, in slot k
-  module _ (k : SlotNo) (found : first_from (of_client m.address m.port) 0 l ≡ Found.At k) where
+  module _ (k : SlotNo) (found : first_from (of_client m.address m.port) 0 l ≡ Some k) where
     abbrev s : Slot
     s = slot_at row k.0
 
@@ -209,7 +209,7 @@ module _ (d : Director) (row : List ℕ) (sound : Sound d row) (m : Segment) whe
         (λ away. record { keeps = refl; stray = rw (found, away, others_open_none protocol m.flags m.sender s.server away) })
 
   -- the client has none
-  module _ (absent : first_from (of_client m.address m.port) 0 l ≡ Found.Nothing) where
+  module _ (absent : first_from (of_client m.address m.port) 0 l ≡ None) where
     full : opens protocol m ≡ true → (why : Refusal) → keeps_clock why ≡ true → eqb (refusal_number why) 12 ≡ false → Declined d l m why
     full new why keeps other = record { keeps = keeps; stray = rw (absent, new) other }
 
@@ -220,9 +220,9 @@ module _ (d : Director) (row : List ℕ) (sound : Sound d row) (m : Segment) whe
         (λ k i walk o. record { absent = absent; opens = new; opening = o }))
         (λ old. record { keeps = refl; stray = rw (absent, old) })
 
-  by_client_lem : (f : Found) → first_from (of_client m.address m.port) 0 l ≡ f → Goal (on_client d l m f)
-  by_client_lem Found.Nothing absent = by_absent absent
-  by_client_lem (Found.At k) found = by_present k found
+  by_client_lem : (f : Option SlotNo) → first_from (of_client m.address m.port) 0 l ≡ f → Goal (on_client d l m f)
+  by_client_lem None absent = by_absent absent
+  by_client_lem (Some k) found = by_present k found
 
   pub decided_grounded : Goal (decided d l m)
   unfolding decided

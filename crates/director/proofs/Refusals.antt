@@ -1,5 +1,6 @@
 -- Which refusals arise before the clock is accepted: they change nothing, and are not 15. Assumes nothing.
-use Rattle.std.specs.Prelude.{Ok, Err}
+use Rattle.std.specs.Prelude.{Ok, Err, Some, None, Option, Result}
+use Rattle.servers.specs.declared.ServerNo.{ServerNo}
 use Prim.Native.Nat.{ℕ}
 use mathlib.Core.Bool.{false, ◌&&◌}
 use mathlib.Core.List.{List}
@@ -8,10 +9,8 @@ use lib.Dec.{eqb}
 use Rattle.lists.proofs.Cases.{by_test}
 use Rattle.packet.specs.declared.read.Fault.{Fault}
 use Rattle.packet.specs.declared.read.Packet.{Packet}
-use Rattle.packet.specs.declared.read.Reading.{Reading}
 use Rattle.packet.specs.Reading.{read_packet}
 use Rattle.servers.specs.declared.Server.{Server}
-use Rattle.servers.specs.declared.Found.{Found}
 use Rattle.servers.specs.declared.rules.Rule.{Rule}
 use Rattle.servers.specs.Rules.{all_keep, number_of}
 use Rattle.director.specs.declared.state.Service.{Service}
@@ -59,13 +58,13 @@ pub read_early : (way : Way) (g : Service) (servers : List Server) (p : List ℕ
 unfolding segment_read
 read_early way g servers p = by_reading way (read_packet g.protocol p)
   where
-    by_number : (r : Packet) (f : Found) → EarlySeen (on_number r f)
-    by_number r Found.Nobody = record { back = refl; not15 = refl }
-    by_number r (Found.At i) = tt
+    by_number : (r : Packet) (f : Option ServerNo) → EarlySeen (on_number r f)
+    by_number r None = record { back = refl; not15 = refl }
+    by_number r (Some i) = tt
 
-    by_reading : (way : Way) (r : Reading) → EarlySeen (on_reading way g servers r)
-    by_reading way (Reading.Refused fault) = fault_early fault
-    by_reading Way.Inbound (Reading.Taken r) =
+    by_reading : (way : Way) (r : Result Packet Fault) → EarlySeen (on_reading way g servers r)
+    by_reading way (Err fault) = fault_early fault
+    by_reading Way.Inbound (Ok r) =
         by_test EarlySeen (eqb r.destination g.address && eqb r.transport.destination g.port) (inbound_segment r) (Err Refusal.OtherEndpoint)
         (λ _. tt) (λ _. record { back = refl; not15 = refl })
-    by_reading Way.Outbound (Reading.Taken r) = by_number r (number_of servers r.source r.transport.source g.servers)
+    by_reading Way.Outbound (Ok r) = by_number r (number_of servers r.source r.transport.source g.servers)

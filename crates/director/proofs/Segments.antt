@@ -1,5 +1,6 @@
 -- What is known of a packet that the director takes: it can be redirected, its client's port fits, and in UDP it has no flags. Assumes nothing.
-use Rattle.std.specs.Prelude.{Ok, Err}
+use Rattle.std.specs.Prelude.{Ok, Err, Some, None, Option, Result}
+use Rattle.packet.specs.declared.read.Fault.{Fault}
 use Prim.Native.Nat.{ℕ, ◌<◌}
 use mathlib.Core.Bool.{Bool, true, false, cond, ◌&&◌}
 use mathlib.Core.List.{List}
@@ -14,17 +15,14 @@ use Rattle.checksum.specs.Ones.{Bytes}
 use Rattle.packet.specs.declared.read.Flags.{Flags}
 use Rattle.packet.specs.declared.read.Packet.{Packet}
 use Rattle.packet.specs.declared.read.TransportHeader.{TransportHeader}
-use Rattle.packet.specs.declared.read.Reading.{Reading}
-use Rattle.packet.specs.declared.read.Transport.{Transport}
 use Rattle.packet.specs.Bytes.{payload}
 use Rattle.packet.specs.Reading.{tcp_malformed, udp_malformed, flags_of, no_flags, ports_of, read_tcp, read_udp, read_transport, read_packet}
 use Rattle.packet.specs.Redirect.{Redirectable}
 use Rattle.packet.proofs.Written.{word_below}
 use Rattle.packet.proofs.Verified.{payload-bytes}
-use Rattle.packet.proofs.Taken.{malformed, accepted, redirectable}
+use Rattle.packet.proofs.Taken.{refused as unread, accepted, redirectable}
 use Rattle.servers.specs.declared.Server.{Server}
 use Rattle.servers.specs.declared.ServerNo.{ServerNo}
-use Rattle.servers.specs.declared.Found.{Found}
 use Rattle.servers.specs.Rules.{number_of}
 use Rattle.director.specs.declared.state.Service.{Service}
 use Rattle.director.specs.declared.state.Director.{Director}
@@ -37,7 +35,7 @@ use Rattle.director.specs.Segment.{Read, inbound_segment, on_number, on_reading,
 -- the packet that a segment was read from
 pub record ReadFrom (protocol : ℕ) (p : List ℕ) (m : Segment) : Type 0 where
   pub packet : Packet
-  pub taken : read_packet protocol p ≡ Reading.Taken packet
+  pub taken : read_packet protocol p ≡ Ok packet
   pub flags : m.flags ≡ packet.transport.flags
   pub port : (m.port ≡ packet.transport.source) ⊎ (m.port ≡ packet.transport.destination)
 
@@ -49,26 +47,26 @@ same_segment x m e = cc
 
 -- what holds of each segment that a packet can be read as holds of the one that it is read as
 module _ (g : Service) (servers : List Server) (p : List ℕ) (P : Way → Segment → Type 0)
-    (inbound : (r : Packet) → read_packet g.protocol p ≡ Reading.Taken r
+    (inbound : (r : Packet) → read_packet g.protocol p ≡ Ok r
     → P Way.Inbound (record { address = r.source; port = r.transport.source; sender = Sender.Client; flags = r.transport.flags }))
-    (outbound : (r : Packet) → read_packet g.protocol p ≡ Reading.Taken r
-    → (i : ServerNo) → number_of servers r.source r.transport.source g.servers ≡ Found.At i
+    (outbound : (r : Packet) → read_packet g.protocol p ≡ Ok r
+    → (i : ServerNo) → number_of servers r.source r.transport.source g.servers ≡ Some i
     → P Way.Outbound (record { address = r.destination; port = r.transport.destination; sender = Sender.Server i; flags = r.transport.flags })) where
-  by_endpoint : (r : Packet) → read_packet g.protocol p ≡ Reading.Taken r → (m : Segment)
+  by_endpoint : (r : Packet) → read_packet g.protocol p ≡ Ok r → (m : Segment)
       → (to : Bool) → cond to (inbound_segment r) (Err Refusal.OtherEndpoint) ≡ Ok m → P Way.Inbound m
   by_endpoint r taken m true e = subst (P Way.Inbound) (same_segment _ m e) (inbound r taken)
   by_endpoint r taken m false e = absurd (refused Refusal.OtherEndpoint m e)
 
-  by_number : (r : Packet) → read_packet g.protocol p ≡ Reading.Taken r → (m : Segment)
-      → (f : Found) → number_of servers r.source r.transport.source g.servers ≡ f → on_number r f ≡ Ok m → P Way.Outbound m
-  by_number r taken m Found.Nobody number e = absurd (refused Refusal.OtherEndpoint m e)
-  by_number r taken m (Found.At i) number e = subst (P Way.Outbound) (same_segment _ m e) (outbound r taken i number)
+  by_number : (r : Packet) → read_packet g.protocol p ≡ Ok r → (m : Segment)
+      → (f : Option ServerNo) → number_of servers r.source r.transport.source g.servers ≡ f → on_number r f ≡ Ok m → P Way.Outbound m
+  by_number r taken m None number e = absurd (refused Refusal.OtherEndpoint m e)
+  by_number r taken m (Some i) number e = subst (P Way.Outbound) (same_segment _ m e) (outbound r taken i number)
 
-  by_reading : (way : Way) (m : Segment) (r : Reading) → read_packet g.protocol p ≡ r → on_reading way g servers r ≡ Ok m → P way m
-  by_reading way m (Reading.Refused fault) taken e = absurd (refused (Refusal.Packet fault) m e)
-  by_reading Way.Inbound m (Reading.Taken r) taken e =
+  by_reading : (way : Way) (m : Segment) (r : Result Packet Fault) → read_packet g.protocol p ≡ r → on_reading way g servers r ≡ Ok m → P way m
+  by_reading way m (Err fault) taken e = absurd (refused (Refusal.Packet fault) m e)
+  by_reading Way.Inbound m (Ok r) taken e =
       by_endpoint r taken m (eqb r.destination g.address && eqb r.transport.destination g.port) e
-  by_reading Way.Outbound m (Reading.Taken r) taken e = by_number r taken m _ refl e
+  by_reading Way.Outbound m (Ok r) taken e = by_number r taken m _ refl e
 
   pub read_by : (way : Way) (m : Segment) → segment_read way g servers p ≡ Ok m → P way m
   unfolding segment_read
@@ -87,27 +85,27 @@ module _ (d : Director) (p : List ℕ) (m : Segment) where
 
 -- a transport header that was read: its ports are words of the transport part, and UDP has no flags
 module _ (t : List ℕ) (h : TransportHeader) where
-  same_header : (flags : Flags) → Transport.Carried (ports_of t flags) ≡ Transport.Carried h → ports_of t flags ≡ h
+  same_header : (flags : Flags) → ◌≡◌ {A = Result TransportHeader Fault} (Ok (ports_of t flags)) (Ok h) → ports_of t flags ≡ h
   same_header flags e = cc
 
-  tcp-header : read_tcp t ≡ Transport.Carried h → ports_of t (flags_of (get_or t 13 0)) ≡ h
-  tcp-header e = same_header (flags_of (get_or t 13 0)) (second (tcp_malformed t) _ _ _ (malformed h) e).1
+  tcp-header : read_tcp t ≡ Ok h → ports_of t (flags_of (get_or t 13 0)) ≡ h
+  tcp-header e = same_header (flags_of (get_or t 13 0)) (second (tcp_malformed t) _ _ _ (unread Fault.MalformedTransport h) e).1
 
-  udp_header : read_udp t ≡ Transport.Carried h → ports_of t no_flags ≡ h
-  udp_header e = same_header no_flags (second (udp_malformed t) _ _ _ (malformed h) e).1
+  udp_header : read_udp t ≡ Ok h → ports_of t no_flags ≡ h
+  udp_header e = same_header no_flags (second (udp_malformed t) _ _ _ (unread Fault.MalformedTransport h) e).1
 
-  ports_below : (protocol : ℕ) → Bytes t → read_transport protocol t ≡ Transport.Carried h → (h.source < 65536) × (h.destination < 65536)
+  ports_below : (protocol : ℕ) → Bytes t → read_transport protocol t ≡ Ok h → (h.source < 65536) × (h.destination < 65536)
   ports_below protocol bytes e = by_protocol (eqb protocol 6) e
     where
       Fit : TransportHeader → Type 0
       Fit x = (x.source < 65536) × (x.destination < 65536)
 
-      by_protocol : (b : Bool) → cond b (read_tcp t) (read_udp t) ≡ Transport.Carried h → Fit h
+      by_protocol : (b : Bool) → cond b (read_tcp t) (read_udp t) ≡ Ok h → Fit h
       by_protocol true e = subst Fit (tcp-header e) (word_below t 0 bytes, word_below t 2 bytes)
       by_protocol false e = subst Fit (udp_header e) (word_below t 0 bytes, word_below t 2 bytes)
 
 module _ (protocol : ℕ) (p : List ℕ) (m : Segment) (from : ReadFrom protocol p m) where
-  carried : read_transport protocol (payload p) ≡ Transport.Carried from.packet.transport
+  carried : read_transport protocol (payload p) ≡ Ok from.packet.transport
   carried = (accepted protocol p from.packet from.taken).carried
 
   -- the client's port is a port

@@ -1,5 +1,5 @@
 -- What is to become of a packet that got past 11. Assumes nothing: these are definitions.
-use Rattle.std.specs.Prelude.{ℕ, Bool, true, false, cond, not, ◌&&◌, List, eqb, get_or}
+use Rattle.std.specs.Prelude.{ℕ, Bool, true, false, cond, not, ◌&&◌, List, eqb, get_or, Some, None, Option}
 use Rattle.packet.specs.declared.read.Flags.{Flags}
 use Rattle.servers.specs.declared.ServerNo.{ServerNo}
 use Rattle.scheduler.specs.declared.walk.Pick.{Pick}
@@ -8,7 +8,6 @@ use Rattle.scheduler.specs.Weights.{none_weighs}
 use Rattle.scheduler.specs.ByNumber.{pick_of}
 use Rattle.table.specs.declared.slot.Slot.{Slot}
 use Rattle.table.specs.declared.slot.SlotNo.{SlotNo}
-use Rattle.table.specs.declared.find.Found.{Found}
 use Rattle.table.specs.Slots.{free_slot, is_unused}
 use Rattle.table.specs.Find.{of_client, first_from}
 use Rattle.table.specs.Changes.{freed}
@@ -45,9 +44,9 @@ abbrev pub on_weights : Director → (ServerNo → Walk → Decision) → Decisi
 on_weights d make = cond (none_weighs d.weights) (Decision.Refuse Refusal.NoWeight) (make (next_pick d).server (next_pick d).walk)
 
 -- an opening: 13 where no slot is free; "The lowest free slot is taken" (SCOPE 8.4)
-abbrev pub on_room : Director → (SlotNo → ServerNo → Walk → Decision) → Found → Decision
-on_room d make Found.Nothing = Decision.Refuse Refusal.TableFull
-on_room d make (Found.At k) = on_weights d (make k)
+abbrev pub on_room : Director → (SlotNo → ServerNo → Walk → Decision) → Option SlotNo → Decision
+on_room d make None = Decision.Refuse Refusal.TableFull
+on_room d make (Some k) = on_weights d (make k)
 
 -- a packet whose client has no connection: 12 where it opens none
 abbrev pub on_absent : Director → List Slot → Segment → Decision
@@ -72,9 +71,9 @@ on_present d l m k s =
     cond (belongs m.sender s.server) (cond (renews m s.phase) (on_renewal d l k) (on_rst k m.flags.rst)) (Decision.Refuse Refusal.NoConnection)
 
 -- has the packet's client a connection?
-abbrev pub on_client : Director → List Slot → Segment → Found → Decision
-on_client d l m (Found.At k) = on_present d l m k (get_or l k.0 free_slot)
-on_client d l m Found.Nothing = on_absent d l m
+abbrev pub on_client : Director → List Slot → Segment → Option SlotNo → Decision
+on_client d l m (Some k) = on_present d l m k (get_or l k.0 free_slot)
+on_client d l m None = on_absent d l m
 
 -- "A connection is known by client address and port" (SCOPE 8.1): 12, 13 and 14 in their order, or what becomes of it
 unfoldable pub decided : Director → List Slot → Segment → Decision

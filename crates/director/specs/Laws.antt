@@ -1,6 +1,6 @@
 -- What opens and what renews, the phases, the refusals' numbers and, at three places, their order, with SCOPE's values written out, what a state holds of the
 -- weights, and who is picked: where one of these is wrong in code and definition alike, a statement here fails. Assumes nothing: these are statements; proofs/Laws.antt proves them (`laws`).
-use Rattle.std.specs.Prelude.{ℕ, Bool, true, false, List, [], ◌∷◌, map, ◌↔◌, ◌≡◌, get_or, Err}
+use Rattle.std.specs.Prelude.{ℕ, Bool, true, false, List, [], ◌∷◌, map, ◌↔◌, ◌≡◌, get_or, Err, Some, None, Option}
 use Rattle.lists.specs.Tests.{keep}
 use Rattle.packet.specs.declared.read.Fault.{Fault}
 use Rattle.packet.specs.declared.read.Flags.{Flags}
@@ -11,7 +11,6 @@ use Rattle.scheduler.specs.ByNumber.{pick_of}
 use Rattle.scheduler.specs.Laws.{EachZero, SomeWeight, IsPick}
 use Rattle.table.specs.declared.slot.Slot.{Slot}
 use Rattle.table.specs.declared.slot.SlotNo.{SlotNo}
-use Rattle.table.specs.declared.find.Found.{Found}
 use Rattle.table.specs.Slots.{free_slot, is_unused}
 use Rattle.table.specs.Find.{of_client, first_from}
 use Rattle.director.specs.declared.state.Director.{Director}
@@ -63,9 +62,9 @@ abbrev pub with_weights : Director → Weights → Director
 with_weights d held = record { service = d.service; servers = d.servers; weights = held; walk = d.walk; clock = d.clock }
 
 -- given the lowest slot of a packet's client: is it one of a connection that the packet belongs to (SCOPE 4.12)?
-abbrev pub is_its : List Slot → Segment → Found → Bool
-is_its l m Found.Nothing = false
-is_its l m (Found.At k) = belongs m.sender (get_or l k.0 free_slot).server
+abbrev pub is_its : List Slot → Segment → Option SlotNo → Bool
+is_its l m None = false
+is_its l m (Some k) = belongs m.sender (get_or l k.0 free_slot).server
 
 -- the order of SCOPE 5.1: "The lowest-placed failing test in that order answers." (SCOPE 5.2)
 
@@ -82,13 +81,13 @@ UnreadFirst =
 -- 13 before 14: a packet that would open where no slot is free, whatever the weights
 abbrev pub FullFirst : Type 0
 FullFirst =
-    (d : Director) (l : List Slot) (m : Segment) → first_from (of_client m.address m.port) 0 l ≡ Found.Nothing
-    → opens d.service.protocol m ≡ true → first_from is_unused 0 l ≡ Found.Nothing → decided d l m ≡ Decision.Refuse Refusal.TableFull
+    (d : Director) (l : List Slot) (m : Segment) → first_from (of_client m.address m.port) 0 l ≡ None
+    → opens d.service.protocol m ≡ true → first_from is_unused 0 l ≡ None → decided d l m ≡ Decision.Refuse Refusal.TableFull
 
 -- "13 can't arise here." (SCOPE 8.17): a packet that renews its client's connection, in slot k
 abbrev pub NeverFull : Type 0
 NeverFull =
-    (d : Director) (l : List Slot) (m : Segment) (k : SlotNo) → first_from (of_client m.address m.port) 0 l ≡ Found.At k
+    (d : Director) (l : List Slot) (m : Segment) (k : SlotNo) → first_from (of_client m.address m.port) 0 l ≡ Some k
     → renews m (get_or l k.0 free_slot).phase ≡ true → decided d l m ≡ Decision.Refuse Refusal.TableFull → ⊥
 
 -- the largest weight and the divisor that a state holds

@@ -1,9 +1,9 @@
 -- What a packet says of a connection, and refusals 6, 20, 7 to 10. Assumes nothing: these are definitions.
-use Rattle.std.specs.Prelude.{ℕ, cond, ◌&&◌, List, eqb, Result, Ok, Err}
+use Rattle.std.specs.Prelude.{ℕ, cond, ◌&&◌, List, eqb, Result, Ok, Err, Some, None, Option}
+use Rattle.packet.specs.declared.read.Fault.{Fault}
+use Rattle.servers.specs.declared.ServerNo.{ServerNo}
 use Rattle.packet.specs.declared.read.Packet.{Packet}
-use Rattle.packet.specs.declared.read.Reading.{Reading}
 use Rattle.packet.specs.Reading.{read_packet}
-use Rattle.servers.specs.declared.Found.{Found}
 use Rattle.servers.specs.declared.Server.{Server}
 use Rattle.servers.specs.Rules.{number_of}
 use Rattle.director.specs.declared.state.Service.{Service}
@@ -27,9 +27,9 @@ from_client g p =
     cond (eqb p.destination g.address && eqb p.transport.destination g.port) (inbound_segment p) (Err Refusal.OtherEndpoint)
 
 -- "an outbound packet's destination" (SCOPE 8.1) is its client; 10: "source is no server's address and port" (SCOPE 4.10)
-abbrev pub on_number : Packet → Found → Read
-on_number p Found.Nobody = Err Refusal.OtherEndpoint
-on_number p (Found.At i) =
+abbrev pub on_number : Packet → Option ServerNo → Read
+on_number p None = Err Refusal.OtherEndpoint
+on_number p (Some i) =
     Ok (record { address = p.destination; port = p.transport.destination; sender = Sender.Server i; flags = p.transport.flags })
 
 abbrev pub from_server : Service → List Server → Packet → Read
@@ -40,9 +40,9 @@ on_way g servers p Way.Inbound = from_client g p
 on_way g servers p Way.Outbound = from_server g servers p
 
 -- 6, 20, 7, 8, 9 as the packet's reading has them, then 10
-abbrev pub on_reading : Way → Service → List Server → Reading → Read
-on_reading way g servers (Reading.Refused fault) = Err (Refusal.Packet fault)
-on_reading way g servers (Reading.Taken p) = on_way g servers p way
+abbrev pub on_reading : Way → Service → List Server → Result Packet Fault → Read
+on_reading way g servers (Err fault) = Err (Refusal.Packet fault)
+on_reading way g servers (Ok p) = on_way g servers p way
 
 -- what a packet says to a service over its servers
 unfoldable pub segment_read : Way → Service → List Server → List ℕ → Read

@@ -14,7 +14,7 @@ use packet::redirect::{Side, redirect_packet};
 use scheduler::walk::Walk;
 use servers::{Server, ServerNo, server_at};
 use table::change::{free_slot, open_slot, touch_slot};
-use table::slot::{SlotNo, server_no_at, slot_at};
+use table::slot::{SlotNo, slot_at};
 
 // The phase after a packet of a connection. (Phases are numbers: words of the lent row.)
 fn phase_after(phase: u32, fin: bool, sender: Sender) -> u32
@@ -53,7 +53,7 @@ fn pass(
     ensures packet { packet.new ≡ forwarded director.now no.0 packet.old segment.sender }
     ensures answer { result ≡ Answer.Passed no change }
 {
-    let server = server_at(director.servers, no);
+    let server = server_at(&director.servers, no);
     forward(packet, director.service, server, segment.sender);
     Answer::Passed(no, change)
 }
@@ -86,7 +86,7 @@ fn end(
     requires { EndReady director.old row.old packet.old k.0 }
     ensures { left_with result director.new row.new packet.new ≡ in_words (ended_held director.old (lent (slots row.old) packet.old) segment k.0) }
 {
-    let no = server_no_at(row, k);
+    let no = slot_at(row, k).server;
     free_slot(row, k);
     with_one_less(director, no);
     pass(director, packet, segment, no, Change::Ended)
@@ -125,7 +125,7 @@ fn renew(
     requires open_ready { OpenReady (with_one_less director.old (slot_at row.old old.0).server.0) (words (freed (slots row.old) old.0)) packet.old k.0 no.0 }
     ensures { left_with result director.new row.new packet.new ≡ in_words (renewed_held director.old (lent (slots row.old) packet.old) segment old.0 k.0 no walk) }
 {
-    let from = server_no_at(row, old);
+    let from = slot_at(row, old).server;
     free_slot(row, old);
     with_one_less(director, from);
     open(director, row, packet, segment, k, no, walk)

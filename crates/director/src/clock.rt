@@ -17,12 +17,9 @@ pub fn settle(director: &mut Director, row: &mut [u32], clock: u32) -> u32
 {
     let Service {
         protocol,
-        servers,
+        servers: n,
         ..
     } = director.service;
-    let expired = expire(row, director.servers, protocol, servers, clock);
-    let left = expired.servers;
-    director.servers = left;
     director.clock = clock;
-    expired.removed
+    expire(row, &mut director.servers, protocol, n, clock)
 }

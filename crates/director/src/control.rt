@@ -7,7 +7,7 @@ use crate::judge::is_sound;
 use crate::state::{Answer, Director, Outcome, Refusal, refuse};
 use scheduler::after_weight;
 use scheduler::weights::weights_of;
-use servers::{ServerNo, server_at, weight_at, with_weight};
+use servers::{ServerNo, server_at, weight_at};
 
 // 15, then 5.
 #[tactic(auto, unfolding(crate::specs::Control::number_judged))]
@@ -28,14 +28,12 @@ fn with_server_weight(director: Director, no: ServerNo, weight: u16) -> Director
     requires { director.service.servers ≤ 64 }
     ensures { result ≡ weighed director no.0 weight }
 {
-    let old = weight_at(director.servers, no);
-    let servers = with_weight(director.servers, no, weight);
-    Director {
-        servers,
-        weights: weights_of(servers, director.service.servers),
-        walk: after_weight(director.service.scheduler, director.walk, old, weight),
-        ..director
-    }
+    let mut after = director;
+    let old = weight_at(&after.servers, no);
+    servers::set_weight(&mut after.servers, no, weight);
+    after.weights = weights_of(&after.servers, after.service.servers);
+    after.walk = after_weight(after.service.scheduler, after.walk, old, weight);
+    after
 }
 
 // Sets a server's weight.
@@ -60,7 +58,7 @@ pub fn count(director: Director, row: &[u32], no: ServerNo) -> Outcome
     match judge_number(&director, row, no) {
         Err(why) => refuse(director, why),
         Ok(()) => Outcome {
-            answer: Answer::Number(server_at(director.servers, no).count),
+            answer: Answer::Number(server_at(&director.servers, no).count),
             director,
         },
     }

@@ -13,8 +13,8 @@ use scheduler::pick;
 use scheduler::walk::{Pick, Walk};
 use scheduler::weights::none_weighs;
 use servers::ServerNo;
-use table::find::{Found, find_client, find_free, find_free_with};
-use table::slot::{SlotNo, server_no_at, slot_at};
+use table::find::{find_client, find_free, find_free_with};
+use table::slot::{SlotNo, slot_at};
 
 // What is to become of a packet: its refusal, or its connection's slot and, where one opens, the server and the walk after the pick; where
 // one opens as another ends, that one's slot first.
@@ -50,7 +50,7 @@ fn belongs_to(sender: Sender, no: ServerNo) -> bool
 {
     match sender {
         Sender::Client => true,
-        Sender::Server(source) => source.0 == no.0,
+        Sender::Server(source) => source == no,
     }
 }
 
@@ -72,7 +72,7 @@ fn next_pick(director: &Director) -> Pick
     } = director.service;
     pick(
         scheduler,
-        director.servers,
+        &director.servers,
         n,
         director.weights,
         director.walk,
@@ -97,7 +97,7 @@ fn decide_renewal(director: &Director, row: &[u32], k: SlotNo) -> Decision
     ensures { result ≡ on_renewal director.now (slots row.now) k }
 {
     let mut ended = *director;
-    with_one_less(&mut ended, server_no_at(row, k));
+    with_one_less(&mut ended, slot_at(row, k).server);
     let free = find_free_with(row, k);
     if none_weighs(ended.weights) {
         return Decision::Refuse(Refusal::NoWeight);
@@ -133,8 +133,8 @@ fn decide_absent(director: &Director, row: &[u32], segment: Segment) -> Decision
         return Decision::Refuse(Refusal::NoConnection);
     }
     match find_free(row) {
-        Found::Nothing => Decision::Refuse(Refusal::TableFull),
-        Found::At(k) => decide_free(director, k),
+        None => Decision::Refuse(Refusal::TableFull),
+        Some(k) => decide_free(director, k),
     }
 }
 
@@ -145,7 +145,7 @@ pub fn decide(director: &Director, row: &[u32], segment: Segment) -> Decision
     ensures { result ≡ decided director.now (slots row.now) segment }
 {
     match find_client(row, segment.address, segment.port) {
-        Found::At(k) => decide_present(director, row, segment, k),
-        Found::Nothing => decide_absent(director, row, segment),
+        Some(k) => decide_present(director, row, segment, k),
+        None => decide_absent(director, row, segment),
     }
 }

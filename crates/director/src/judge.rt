@@ -45,10 +45,10 @@ pub fn judge_settings(service: Service, servers: &[Server; 64], row: &[u32]) -> 
     if !is_service_right(service) {
         return Err(Refusal::Service);
     }
-    if !all_keep(Rule::Set, *servers, n) {
+    if !all_keep(Rule::Set, servers, n) {
         return Err(Refusal::ServerUnset);
     }
-    if !all_keep(Rule::New, *servers, n) {
+    if !all_keep(Rule::New, servers, n) {
         return Err(Refusal::ServerRepeated);
     }
     Ok(())
@@ -66,17 +66,17 @@ fn are_parts_sound(director: &Director, row: &[u32]) -> bool
         servers: n,
         ..
     } = director.service;
-    if !all_keep(Rule::UnusedFrom(n), director.servers, 64) {
+    if !all_keep(Rule::UnusedFrom(n), &director.servers, 64) {
         return false;
     }
     let held = director.weights;
-    if !weights_agree(held, director.servers, n) {
+    if !weights_agree(held, &director.servers, n) {
         return false;
     }
     if !in_range(scheduler, held.largest, n, director.walk) {
         return false;
     }
-    table::sound::is_sound(row, director.servers, protocol, n, director.clock)
+    table::sound::is_sound(row, &director.servers, protocol, n, director.clock)
 }
 
 // Whether the state handed in is sound: 15 exactly where it is not.

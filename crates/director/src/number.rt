@@ -3,7 +3,6 @@ ghost use Rattle.std.specs.Prelude.{◌≡◌};
 ghost use Rattle.director.specs.State.{refusal_number, keeps_clock};
 
 use crate::state::Refusal;
-use packet::read::fault_number;
 
 // The number given on a refusal.
 impl From<Refusal> for u8 {
@@ -16,7 +15,7 @@ impl From<Refusal> for u8 {
             Refusal::ServerUnset => 3,
             Refusal::ServerRepeated => 4,
             Refusal::NoServer => 5,
-            Refusal::Packet(fault) => fault_number(fault),
+            Refusal::Packet(fault) => u8::from(fault),
             Refusal::OtherEndpoint => 10,
             Refusal::EarlierClock => 11,
             Refusal::NoConnection => 12,

@@ -3,9 +3,9 @@ ghost use Rattle.std.specs.Prelude.{◌≡◌, ◌≤◌};
 ghost use Rattle.director.specs.Segment.{from_client, from_server, segment_read};
 
 use crate::state::{Director, Refusal, Service, Way};
-use packet::read::{Flags, Packet, Reading, read_packet};
+use packet::read::{Flags, Packet, read_packet};
+use servers::ServerNo;
 use servers::rules::number_of;
-use servers::{Found, ServerNo};
 
 // Who sent a packet.
 #[derive(Clone, Copy)]
@@ -44,15 +44,15 @@ fn from_server(director: &Director, p: Packet) -> Result<Segment, Refusal>
     ensures { result ≡ from_server director.now.service director.now.servers p }
 {
     let n = director.service.servers;
-    match number_of(director.servers, n, p.source, p.transport.source) {
-        Found::Nobody => Err(Refusal::OtherEndpoint),
-        Found::At(no) => Ok(Segment {
-            address: p.destination,
-            port: p.transport.destination,
-            sender: Sender::Server(no),
-            flags: p.transport.flags,
-        }),
-    }
+    let no = number_of(&director.servers, n, p.source, p.transport.source).ok_or(
+        Refusal::OtherEndpoint,
+    )?;
+    Ok(Segment {
+        address: p.destination,
+        port: p.transport.destination,
+        sender: Sender::Server(no),
+        flags: p.transport.flags,
+    })
 }
 
 // What a packet says, or the first of refusals 6, 20, 7 to 10.
@@ -61,11 +61,9 @@ pub fn read_segment(way: Way, director: &Director, packet: &[u8]) -> Result<Segm
     requires { director.now.service.servers ≤ 64 }
     ensures { result ≡ segment_read way director.now.service director.now.servers packet.now }
 {
-    match read_packet(director.service.protocol, packet) {
-        Reading::Refused(fault) => Err(Refusal::Packet(fault)),
-        Reading::Taken(p) => match way {
-            Way::Inbound => from_client(director.service, p),
-            Way::Outbound => from_server(director, p),
-        },
+    let p = read_packet(director.service.protocol, packet)?;
+    match way {
+        Way::Inbound => from_client(director.service, p),
+        Way::Outbound => from_server(director, p),
     }
 }

@@ -17,11 +17,11 @@ fn new_director(service: Service, given: &[Server; 64]) -> Director
     ensures { result ≡ new_director service given.now }
 {
     let n = service.servers;
-    let servers = fresh_servers(*given, n);
+    let servers = fresh_servers(given, n);
     Director {
         service,
         servers,
-        weights: weights_of(servers, n),
+        weights: weights_of(&servers, n),
         walk: start(service.scheduler, n),
         clock: 0,
     }

@@ -1,6 +1,7 @@
 // The director's state, and what a call answers.
 ghost use Rattle.std.specs.Prelude.{◌≡◌, ◌<◌, ◌≤◌};
 ghost use Rattle.servers.specs.Servers.{count_at};
+ghost use Rattle.director.specs.declared.state.Refusal.{Refusal};
 ghost use Rattle.director.specs.State.{refused_by, with_one_less, with_one_more};
 
 use packet::read::Fault;
@@ -71,6 +72,14 @@ pub enum Refusal {
     Unsound,
 }
 
+impl From<Fault> for Refusal {
+    ghost from_gives = { λ fault why. why ≡ Refusal.Packet fault };
+
+    fn from(fault: Fault) -> Refusal {
+        Refusal::Packet(fault)
+    }
+}
+
 // What became of an accepted packet's connection. The numbers are those that a program is told.
 #[derive(Clone, Copy)]
 pub enum Change {
@@ -110,7 +119,7 @@ pub fn with_one_less(director: &mut Director, no: ServerNo)
     requires { 1 ≤ count_at director.old.servers no.0 }
     ensures { director.new ≡ with_one_less director.old no.0 }
 {
-    director.servers = lower(director.servers, no);
+    lower(&mut director.servers, no);
 }
 
 // One connection more on server `no`, and another walk.
@@ -118,6 +127,6 @@ pub fn with_one_more(director: &mut Director, no: ServerNo, walk: Walk)
     requires { count_at director.old.servers no.0 < 4294967295 }
     ensures { director.new ≡ with_one_more director.old no.0 walk }
 {
-    director.servers = raise(director.servers, no);
+    raise(&mut director.servers, no);
     director.walk = walk;
 }

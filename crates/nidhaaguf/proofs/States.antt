@@ -1,4 +1,6 @@
 -- Decoding and encoding undo each other, and a place that no server number has makes a state unsound. Assumes nothing.
+use Rattle.std.specs.Prelude.{Some, None, Option}
+use Rattle.servers.specs.declared.ServerNo.{ServerNo}
 use Prim.Native.Nat.{ℕ, ◌≤◌, ◌<◌, ◌+◌, ◌-◌}
 use mathlib.Core.Bool.{true, false}
 use mathlib.Core.List.{List}
@@ -8,7 +10,6 @@ use native.Mathlib.Omega.{arith}
 use lib.Dec.{eqb, leb}
 use borrow.Author.Tests.{ne_eqb, le-leb, lt-leb, leb-true, eqb-true, eqb-false}
 use Rattle.lists.proofs.Cases.{truth, by_test}
-use Rattle.scheduler.specs.declared.walk.Place.{Place}
 use Rattle.scheduler.specs.Laws.{Within}
 use Rattle.scheduler.proofs.Ranges.{place_in_range}
 use Rattle.director.specs.declared.state.Director.{Director}
@@ -18,9 +19,9 @@ use Rattle.nidhaaguf.specs.declared.state.State.{State}
 use Rattle.nidhaaguf.specs.State.{place_of, place_number, decoded, encoded}
 
 -- a place that is -1 or at one of the first n servers has a number of at most n
-within : (n : ℕ) (p : Place) → Within n p → place_number p ≤ n
-within n Place.Start h = omega arith
-within n (Place.At i) h = omega arith
+within : (n : ℕ) (p : Option ServerNo) → Within n p → place_number p ≤ n
+within n None h = omega arith
+within n (Some i) h = omega arith
 
 -- a sound state's place
 pub sound_place : (d : Director) (row : List ℕ) → sound_of d row ≡ true → place_number d.walk.place ≤ 64
@@ -33,9 +34,9 @@ sound_place d row e =
 less_one : (k : ℕ) → (k + 1) - 1 ≡ k
 less_one k = omega arith
 
-place_back : (p : Place) → place_number p ≤ 4294967296 → place_of (place_number p) ≡ p
-place_back Place.Start h = refl
-place_back (Place.At i) h = simp (ne_eqb (i.0 + 1) 0 (omega arith), le-leb (i.0 + 1) 4294967296 h, less_one i.0)
+place_back : (p : Option ServerNo) → place_number p ≤ 4294967296 → place_of (place_number p) ≡ p
+place_back None h = refl
+place_back (Some i) h = simp (ne_eqb (i.0 + 1) 0 (omega arith), le-leb (i.0 + 1) 4294967296 h, less_one i.0)
 
 -- the director's state comes back whole
 pub decoded-encoded : (d : Director) → place_number d.walk.place ≤ 4294967296 → decoded (encoded d) ≡ d
@@ -43,7 +44,7 @@ decoded-encoded d h = rw (place_back d.walk.place h)
 
 number_back : (n : ℕ) → n ≤ 4294967296 → place_number (place_of n) ≡ n
 number_back n h =
-    by_test (λ (p : Place). place_number p ≡ n) (eqb n 0) _ _
+    by_test (λ (p : Option ServerNo). place_number p ≡ n) (eqb n 0) _ _
     (λ e. omega (arith, eqb-true n 0 e))
     (λ e. simp (le-leb n 4294967296 h) (omega (arith, eqb-false n 0 e)))
 
@@ -57,7 +58,7 @@ decoded_again s = decoded-encoded (decoded s) (fits s.place)
   where
     fits : (n : ℕ) → place_number (place_of n) ≤ 4294967296
     fits n =
-        by_test (λ (p : Place). place_number p ≤ 4294967296) (eqb n 0) _ _
+        by_test (λ (p : Option ServerNo). place_number p ≤ 4294967296) (eqb n 0) _ _
         (λ e. omega arith)
         (λ e. by_test (λ (k : ℕ). k + 1 ≤ 4294967296) (leb n 4294967296) _ _ (λ h. omega (arith, leb-true n 4294967296 h)) (λ h. omega arith))
 

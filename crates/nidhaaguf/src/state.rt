@@ -3,7 +3,7 @@ ghost use Rattle.std.specs.Prelude.{◌≡◌};
 ghost use Rattle.nidhaaguf.specs.State.{place_of, place_number, decoded, encoded};
 
 use director::state::{Director, Service};
-use scheduler::walk::{Place, Walk};
+use scheduler::walk::Walk;
 use scheduler::weights::Weights;
 use servers::{Server, ServerNo};
 
@@ -32,22 +32,20 @@ pub struct Servers {
 }
 
 // The place of a number. A number that no server's place has becomes the last server number there is: no sound state's walk is there.
-fn place_of(number: u64) -> Place
+fn place_of(number: u64) -> Option<ServerNo>
     ensures { result ≡ place_of number }
 {
-    match number.checked_sub(1) {
-        None => Place::Start,
-        Some(no) => Place::At(ServerNo(u32::try_from(no).unwrap_or(u32::MAX))),
-    }
+    let no = number.checked_sub(1)?;
+    Some(ServerNo(u32::try_from(no).unwrap_or(u32::MAX)))
 }
 
 // The number of a place.
-fn place_number(place: Place) -> u64
+fn place_number(place: Option<ServerNo>) -> u64
     ensures { result ≡ place_number place }
 {
     match place {
-        Place::Start => 0,
-        Place::At(no) => u64::from(no.0) + 1,
+        None => 0,
+        Some(no) => u64::from(no.0) + 1,
     }
 }
 

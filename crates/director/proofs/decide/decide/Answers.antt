@@ -6,5 +6,5 @@ use Rattle.director.proofs.decide.decide.Goals as goal
 
 pub decide_present-requires-clause-within : goal.decide_present-requires-clause-within
 decide_present-requires-clause-within c =
-    let found = found_lowest _ _ _ (sym c.find_client.ensures ∙ c.in-At.is) in
+    let found = found_lowest _ _ _ (sym c.find_client.ensures ∙ c.in-Some.is) in
     omega (arith, found, length-slots c.args.row.now)
