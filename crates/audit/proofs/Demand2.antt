@@ -134,7 +134,7 @@ same_server i j x y e = cc
 same_change : (i j : ServerNo) (x y : Change) → Answer.Passed i x ≡ Answer.Passed j y → x ≡ y
 same_change i j x y e = cc
 
-one_segment : (m m' : Segment) → Ok m ≡ Ok m' → m ≡ m'
+one_segment : (m m' : Segment) → ◌≡◌ {A = Read} (Ok m) (Ok m') → m ≡ m'
 one_segment m m' e = cc
 
 module _ (way : Way) (d : Director) (row p : List ℕ) (now : ℕ) (fits : EndsFit d.service d.servers) (bytes : Bytes p) where

@@ -69,7 +69,7 @@ audited_setup s b g given fits accepted =
   where
     by_verdict : (v : Judged) → settings_judged g given s.row ≡ v
         → let r = on_verdict s.director g given s.row v in r.answer ≡ Answer.Done → Agree r.director (slots r.lent.table) (note_setup b g given r.answer)
-    by_verdict (Ok done) e done = agreed _ _ _ _ (matches_new g given s.row (judged g given s.row e) fits)
+    by_verdict (Ok unit) e done = agreed _ _ _ _ (matches_new g given s.row (judged g given s.row e) fits)
     by_verdict (Err why) e done = absurd (refused-done why done)
 
 pub demand3 : Demand3

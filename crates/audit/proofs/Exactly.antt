@@ -1,5 +1,5 @@
 -- Each call gives the number of the lowest-placed of its tests that fails, and 0 where none does. Assumes nothing.
-use Rattle.std.specs.Prelude.{Ok, Err, Some, None, Result as ResultOf}
+use Rattle.std.specs.Prelude.{Ok, Err, Some, None, Option, Result as ResultOf}
 use Rattle.packet.specs.declared.read.TransportHeader.{TransportHeader}
 use Prim.Native.Nat.{ℕ, ◌<◌}
 use mathlib.Core.Bool.{Bool, true, false, cond, not, ◌&&◌, ◌||◌}
@@ -144,14 +144,14 @@ module _ (d : Director) (row : List ℕ) (sound : Sound d row) (m : Segment) whe
   held_none = ap none_weighs sound.weights
 
   -- what 12 to 14 say, of the client's connection and the lowest free slot
-  abbrev route_number : FoundSlot → FoundSlot → ℕ
+  abbrev route_number : Option SlotNo → Option SlotNo → ℕ
   route_number client free =
       cond (not (is_its l m client) && not new) 12
       (cond ((not (is_present client) && new) && not (is_present free)) 13
       (cond (((not (is_present client) && new) || is_renewal l m client) && none) 14 0))
 
   -- the client has a connection, in slot k
-  module _ (k : SlotNo) (found : first_from (of_client m.address m.port) 0 l ≡ FoundSlot.At k) where
+  module _ (k : SlotNo) (found : first_from (of_client m.address m.port) 0 l ≡ Some k) where
     abbrev s : Slot
     s = get_or l k.0 free_slot
 
@@ -162,12 +162,12 @@ module _ (d : Director) (row : List ℕ) (sound : Sound d row) (m : Segment) whe
     within = (found_lowest (of_client m.address m.port) l k.0 found).within
 
     -- a slot is free then
-    by_free : (f : FoundSlot) → first_from is_unused 0 (freed l k.0) ≡ f → decision_number (on_room ended (Decision.Renew k) f) ≡ cond none 14 0
+    by_free : (f : Option SlotNo) → first_from is_unused 0 (freed l k.0) ≡ f → decision_number (on_room ended (Decision.Renew k) f) ≡ cond none 14 0
     unfolding decision_number
-    by_free FoundSlot.Nothing e = absurd (freed_found l k.0 within e)
-    by_free (FoundSlot.At j) e = on_weights_lem ended (Decision.Renew k j) (λ i walk. refl) ∙ rw held_none
+    by_free None e = absurd (freed_found l k.0 within e)
+    by_free (Some j) e = on_weights_lem ended (Decision.Renew k j) (λ i walk. refl) ∙ rw held_none
 
-    on_present_lem : (free : FoundSlot) → decision_number (on_present d l m k s) ≡ route_number (FoundSlot.At k) free
+    on_present_lem : (free : Option SlotNo) → decision_number (on_present d l m k s) ≡ route_number (Some k) free
     unfolding decision_number
     on_present_lem free = by_tests (belongs m.sender s.server) refl (renews m s.phase) m.flags.rst
       where
@@ -179,18 +179,18 @@ module _ (d : Director) (row : List ℕ) (sound : Sound d row) (m : Segment) whe
         by_tests true e false false = refl
         by_tests false e renewed rst = rw (others_open_none d.service.protocol m.flags m.sender s.server e)
 
-  on_absent_lem : (opening : Bool) (free : FoundSlot)
+  on_absent_lem : (opening : Bool) (free : Option SlotNo)
       → decision_number (cond opening (on_room d Decision.Open free) (Decision.Refuse Refusal.NoConnection))
       ≡ cond (not opening) 12 (cond (opening && not (is_present free)) 13 (cond ((opening || false) && none) 14 0))
   unfolding decision_number
   on_absent_lem false free = refl
-  on_absent_lem true FoundSlot.Nothing = refl
-  on_absent_lem true (FoundSlot.At k) = on_weights_lem d (Decision.Open k) (λ i walk. refl) ∙ rw held_none
+  on_absent_lem true None = refl
+  on_absent_lem true (Some k) = on_weights_lem d (Decision.Open k) (λ i walk. refl) ∙ rw held_none
 
-  by_client_lem : (client : FoundSlot) → first_from (of_client m.address m.port) 0 l ≡ client
+  by_client_lem : (client : Option SlotNo) → first_from (of_client m.address m.port) 0 l ≡ client
       → decision_number (on_client d l m client) ≡ route_number client (first_from is_unused 0 l)
-  by_client_lem (FoundSlot.At k) found = on_present_lem k found (first_from is_unused 0 l)
-  by_client_lem FoundSlot.Nothing found = on_absent_lem new (first_from is_unused 0 l)
+  by_client_lem (Some k) found = on_present_lem k found (first_from is_unused 0 l)
+  by_client_lem None found = on_absent_lem new (first_from is_unused 0 l)
 
   route_exactly : (p : List ℕ) → number_given (routed d (lent l p) m).answer ≡ lowest_failing (route_tests d l m)
   unfolding routed decided
@@ -243,7 +243,7 @@ module _ (way : Way) (d : Director) (row p : List ℕ) (now : ℕ) (sound : soun
       by_endpoint false = refl
   on_endpoint Way.Outbound flags = by_number (number_of d.servers (address_at p 12) (word_at (payload p) 0) g.servers)
     where
-      by_number : (f : Found) → let s = on_number (packet_with (header_of p) (ports_of (payload p) flags)) f in number s ≡ cond (is_nobody f) 10 (later s)
+      by_number : (f : Option ServerNo) → let s = on_number (packet_with (header_of p) (ports_of (payload p) flags)) f in number s ≡ cond (is_nobody f) 10 (later s)
       by_number None = refl
       by_number (Some i) = on_segment _
 

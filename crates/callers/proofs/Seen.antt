@@ -1,5 +1,6 @@
 -- What a program sees of a call is the director's result: the three numbers tell the answer, and the struct is the director's state.
 -- Assumes nothing.
+use Rattle.std.specs.Prelude.{Ok, Err}
 use Prim.Native.Nat.{ℕ}
 use mathlib.Core.Bool.{Bool, true, false}
 use mathlib.Core.List.{List, []}
@@ -13,7 +14,7 @@ use Rattle.director.specs.declared.state.Director.{Director}
 use Rattle.director.specs.declared.state.Refusal.{Refusal}
 use Rattle.director.specs.declared.state.Answer.{Answer}
 use Rattle.director.specs.declared.state.Way.{Way}
-use Rattle.director.specs.declared.judge.Verdict.{Verdict}
+use Rattle.director.specs.Judge.{Judged}
 use Rattle.director.specs.declared.segment.Segment.{Segment}
 use Rattle.director.specs.Segment.{Read}
 use Rattle.director.specs.declared.decide.Decision.{Decision}
@@ -43,17 +44,17 @@ tells_refused : (c : Call) (why : Refusal) → Tells c (Answer.Refused why)
 tells_refused c = each-refusal (λ why. let t = told_by (Answer.Refused why) in answer_of c t.refusal t.number t.change) Answer.Refused refl
 
 module _ (d : Director) (row : List ℕ) where
-  setup_tells : (g : Service) (given : List Server) (v : Verdict) → Tells (set_up g given) (on_verdict d g given row v).answer
-  setup_tells g given (Verdict.Refused why) = tells_refused (set_up g given) why
-  setup_tells g given Verdict.Accepted = refl
+  setup_tells : (g : Service) (given : List Server) (v : Judged) → Tells (set_up g given) (on_verdict d g given row v).answer
+  setup_tells g given (Err why) = tells_refused (set_up g given) why
+  setup_tells g given (Ok done) = refl
 
-  weight_tells : (k w : ℕ) (v : Verdict) → Tells (set_weight k w) (on_weight d row k w v).answer
-  weight_tells k w (Verdict.Refused why) = tells_refused (set_weight k w) why
-  weight_tells k w Verdict.Accepted = refl
+  weight_tells : (k w : ℕ) (v : Judged) → Tells (set_weight k w) (on_weight d row k w v).answer
+  weight_tells k w (Err why) = tells_refused (set_weight k w) why
+  weight_tells k w (Ok done) = refl
 
-  count_tells : (k : ℕ) (v : Verdict) → Tells (count k) (on_count d row k v).answer
-  count_tells k (Verdict.Refused why) = tells_refused (count k) why
-  count_tells k Verdict.Accepted = refl
+  count_tells : (k : ℕ) (v : Judged) → Tells (count k) (on_count d row k v).answer
+  count_tells k (Err why) = tells_refused (count k) why
+  count_tells k (Ok done) = refl
 
   tick_tells : (now : ℕ) (sound : Bool) → Tells (tick now) (tick_on_sound d (lent row []) now sound).answer
   tick_tells now false = tells_refused (tick now) Refusal.Unsound

@@ -1,6 +1,6 @@
 // A service over two servers, and a state to begin with.
 use director::state::{Director, Service};
-use scheduler::walk::{Place, Walk};
+use scheduler::walk::Walk;
 use scheduler::weights::Weights;
 use servers::{Server, unused};
 
@@ -52,7 +52,7 @@ pub fn blank() -> Director {
             divisor: 0,
         },
         walk: Walk {
-            place: Place::Start,
+            place: None,
             level: 0,
         },
         clock: 0,

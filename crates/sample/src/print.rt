@@ -1,5 +1,4 @@
 // Answers as text.
-use director::number::refusal_number;
 use director::state::{Answer, Change};
 use std::fmt;
 
@@ -13,7 +12,7 @@ impl fmt::Display for Told {
             Answer::Done => f.write_str("done"),
             Answer::Number(n) => write!(f, "number {n}"),
             Answer::Passed(server, change) => write!(f, "{}, server {}", word(change), server.0),
-            Answer::Refused(why) => write!(f, "refused, number {}", refusal_number(why)),
+            Answer::Refused(why) => write!(f, "refused, number {}", u8::from(why)),
         }
     }
 }
