@@ -67,6 +67,7 @@ fn in_groups(length: usize) -> usize
 
 // The one's complement sum of the words of `b`; an odd last byte counts as a high byte. The first bytes are summed by groups and what
 // is left by words: of an IP header nothing is.
+#[tactic(auto, using(crate::proofs::Words::words_front, crate::proofs::Words::left_over_front, crate::proofs::Words::words_odd, crate::proofs::Words::words_even, crate::proofs::Grouping::front_below, crate::proofs::Grouping::front_sum))]
 pub fn ones_sum(b: &[u8]) -> u16
     ensures { result ≡ ones_sum (words_of b.now) }
 {
