@@ -31,14 +31,15 @@ pub fn word_at(b: &[u8], at: usize) -> u16
 }
 
 // The plain sum of the groups of `b`.
-#[tactic(auto, using(crate::proofs::Grouping::groups_next, crate::proofs::Grouping::groups_none, crate::proofs::Grouping::groups_below))]
+#[tactic(auto, using(crate::proofs::Grouping::fours_groups, crate::proofs::Grouping::groups_below))]
 fn groups_sum(b: &[u8]) -> u64
     requires { WholeGroups (length b.now) }
     ensures { result ≡ total (groups_of b.now) }
 {
+    let (groups, _) = b.as_chunks::<4>();
     let mut sum = 0;
-    for group in b.chunks_exact(4) {
-        sum += u64::from(u32::from_be_bytes([group[0], group[1], group[2], group[3]]));
+    for group in groups {
+        sum += u64::from(u32::from_be_bytes(*group));
     }
     sum
 }
@@ -67,16 +68,15 @@ fn in_groups(length: usize) -> usize
 
 // The one's complement sum of the words of `b`; an odd last byte counts as a high byte. The first bytes are summed by groups and what
 // is left by words: of an IP header nothing is.
-#[tactic(auto, using(crate::proofs::Words::words_front, crate::proofs::Words::left_over_front, crate::proofs::Words::words_odd, crate::proofs::Words::words_even, crate::proofs::Grouping::front_below, crate::proofs::Grouping::front_sum))]
+#[tactic(auto, using(crate::proofs::Words::pairs_sum, crate::proofs::Words::words_odd, crate::proofs::Words::words_none, crate::proofs::Grouping::front_below, crate::proofs::Grouping::front_sum))]
 pub fn ones_sum(b: &[u8]) -> u16
     ensures { result ≡ ones_sum (words_of b.now) }
 {
-    let (groups, rest) = b.split_at(in_groups(b.len()));
-    let words = rest.chunks_exact(2);
-    let odd = words.remainder();
-    let mut sum = fold(groups_sum(groups));
+    let (front, rest) = b.split_at(in_groups(b.len()));
+    let (words, odd) = rest.as_chunks::<2>();
+    let mut sum = fold(groups_sum(front));
     for word in words {
-        sum = ones_add(sum, u16::from_be_bytes([word[0], word[1]]));
+        sum = ones_add(sum, u16::from_be_bytes(*word));
     }
     match odd {
         [last] => ones_add(sum, u16::from_be_bytes([*last, 0])),
