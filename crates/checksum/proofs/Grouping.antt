@@ -11,7 +11,7 @@ use Rattle.std.proofs.Common.{map}
 use Rattle.std.specs.Simd.{first_chunks}
 use Rattle.checksum.specs.Ones.{Bytes, carried, words_of, sum_from, ones_sum, group_of, groups_of, group_at, WholeGroups, total, Foldable, folded}
 use Rattle.checksum.specs.Laws.{GroupLaw}
-use Rattle.checksum.proofs.Words.{words_fit}
+use Rattle.checksum.proofs.Words.{words_fit, pairs_sum, words_odd, words_none}
 use Rattle.checksum.proofs.Reduced.{reduced, reduced_small, reduced_more, reduced_carried, ones_sum_reduced}
 
 -- the groups' sum beside the words': 65535 times the sum of the first words more
@@ -106,3 +106,8 @@ module _ (b : List ℕ) (m : ℕ) (all : Bytes b) (whole : WholeGroups m) (withi
   front_sum =
       let half : m / 2 + m / 2 ≡ m = omega (arith, whole.0) in
       rw (grouping (take m b) (below_take m all) front) (rw half at (cut_sum (m / 2) 0 b))
+
+-- what `groups_sum` and `ones_sum` are proved by
+pub ruleset whole_groups = (fours_groups, groups_below)
+
+pub ruleset front_and_rest = (front_below, front_sum, pairs_sum, words_odd, words_none)

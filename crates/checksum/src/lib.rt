@@ -31,7 +31,7 @@ pub fn word_at(b: &[u8], at: usize) -> u16
 }
 
 // The plain sum of the groups of `b`.
-#[tactic(auto, using(crate::proofs::Grouping::fours_groups, crate::proofs::Grouping::groups_below))]
+#[tactic(auto, using(crate::proofs::Grouping::whole_groups))]
 fn groups_sum(b: &[u8]) -> u64
     requires { WholeGroups (length b.now) }
     ensures { result ≡ total (groups_of b.now) }
@@ -59,16 +59,12 @@ fn fold(sum: u64) -> u16
 fn in_groups(length: usize) -> usize
     ensures { WholeGroups result × (result ≤ length) }
 {
-    if length < MOST_IN_GROUPS {
-        length / 4 * 4
-    } else {
-        MOST_IN_GROUPS
-    }
+    length.min(MOST_IN_GROUPS) / 4 * 4
 }
 
 // The one's complement sum of the words of `b`; an odd last byte counts as a high byte. The first bytes are summed by groups and what
 // is left by words: of an IP header nothing is.
-#[tactic(auto, using(crate::proofs::Words::pairs_sum, crate::proofs::Words::words_odd, crate::proofs::Words::words_none, crate::proofs::Grouping::front_below, crate::proofs::Grouping::front_sum))]
+#[tactic(auto, using(crate::proofs::Grouping::front_and_rest))]
 pub fn ones_sum(b: &[u8]) -> u16
     ensures { result ≡ ones_sum (words_of b.now) }
 {
@@ -96,5 +92,5 @@ pub fn is_valid(b: &[u8]) -> bool
 pub fn edit(hc: u16, old: u16, new: u16) -> u16
     ensures { result ≡ edited hc old new }
 {
-    65535 - ones_add(ones_add(65535 - hc, 65535 - old), new)
+    !ones_add(ones_add(!hc, !old), new)
 }
