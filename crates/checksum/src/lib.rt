@@ -1,9 +1,9 @@
 // The Internet checksum: RFC 1071's sum over a slice of bytes, and RFC 1624's edit for one changed word.
 #![tactic(auto)]
 
-ghost use Rattle.std.specs.Prelude.{◌≡◌, ◌+◌, ◌*◌, ◌<◌, ◌≤◌, length};
+ghost use Rattle.std.specs.Prelude.{◌≡◌, ◌+◌, ◌<◌, ◌≤◌, length};
 ghost use Rattle.checksum.specs.Ones.{carried, ones_add, words_of, word_at, ones_sum, verifies, edited};
-ghost use Rattle.checksum.specs.Ones.{group_of, groups_of, group_at, WholeGroups, total, Foldable, folded};
+ghost use Rattle.checksum.specs.Ones.{groups_of, WholeGroups, total, Foldable, folded};
 
 // The most bytes that are summed by groups before a fold.
 const MOST_IN_GROUPS: usize = 65532;
@@ -84,7 +84,7 @@ pub fn ones_sum(b: &[u8]) -> u16
 pub fn is_valid(b: &[u8]) -> bool
     ensures { result ≡ verifies (words_of b.now) }
 {
-    ones_sum(b) == 65535
+    ones_sum(b) == u16::MAX
 }
 
 // The checksum `hc` after one word changed from `old` to `new`: RFC 1624, equation 3.
