@@ -1,15 +1,17 @@
 -- The law of a sum by groups of specs/Laws.antt. A group is its two words and 65535 times the first, and a fold takes off 65535 times its carry.
 use mathlib.Core.Path.{◌≡◌, refl, sym, ap, ◌∙◌}
-use mathlib.Core.List.{List, [], ◌∷◌, ◌++◌}
+use mathlib.Core.List.{List, [], ◌∷◌}
 use Prim.Native.Nat.{ℕ, zero, suc, ◌+◌, ◌-◌, ◌*◌, ◌^◌, ◌/◌, ◌%◌, ◌≤◌, ◌<◌}
 use native.Mathlib.Nat.{suc-add, add-suc}
 use native.Mathlib.Omega.{arith}
 use lib.ListN.{length, take, drop}
 use lib.Seq.{length-take-le}
 use Rattle.lists.proofs.Below.{below_tail, below_take}
-use Rattle.checksum.specs.Ones.{Bytes, carried, words_of, sum_from, ones_sum, groups_of, group_at, WholeGroups, total, Foldable, folded}
+use Rattle.std.proofs.Common.{map}
+use Rattle.std.specs.Simd.{first_chunks}
+use Rattle.checksum.specs.Ones.{Bytes, carried, words_of, sum_from, ones_sum, group_of, groups_of, group_at, WholeGroups, total, Foldable, folded}
 use Rattle.checksum.specs.Laws.{GroupLaw}
-use Rattle.checksum.proofs.Words.{words_fit}
+use Rattle.checksum.proofs.Words.{words_fit, pairs_sum, words_odd, words_none}
 use Rattle.checksum.proofs.Reduced.{reduced, reduced_small, reduced_more, reduced_carried, ones_sum_reduced}
 
 -- the groups' sum beside the words': 65535 times the sum of the first words more
@@ -68,25 +70,21 @@ grouping b all whole =
     ∙ reduced_more (total (words_of b)) both.firsts (λ e. omega (arith, both.within))
     ∙ sym (ones_sum_reduced (words_of b) (words_fit b all))
 
--- four bytes and then others: the group of the four, and the groups of the others
-groups_front : (x r : List ℕ) → length x ≡ 4 → groups_of (x ++ r) ≡ group_at x 0 ∷ groups_of r
-groups_front [] r h = absurd (omega arith)
-groups_front (a ∷ []) r h = absurd (omega arith)
-groups_front (a ∷ b ∷ []) r h = absurd (omega arith)
-groups_front (a ∷ b ∷ c ∷ []) r h = absurd (omega arith)
-groups_front (a ∷ b ∷ c ∷ d ∷ []) r h = refl
-groups_front (a ∷ b ∷ c ∷ d ∷ e ∷ x) r h = absurd (omega arith)
+-- the groups of fours of bytes
+abbrev pub groups_in : List (List ℕ) → List ℕ
+groups_in fours = map (λ (x : List ℕ). group_at x 0) fours
 
-pub groups_next : (x r r' : List ℕ) → r ≡ x ++ r' → length x ≡ 4 → total (groups_of r) ≡ group_at x 0 + total (groups_of r')
-groups_next x r r' e h = rw (e, groups_front x r' h) refl
-
--- fewer than four bytes make no group
-pub groups_none : (r : List ℕ) → length r < 4 → groups_of r ≡ []
-groups_none [] h = refl
-groups_none (a ∷ []) h = refl
-groups_none (a ∷ b ∷ []) h = refl
-groups_none (a ∷ b ∷ c ∷ []) h = refl
-groups_none (a ∷ b ∷ c ∷ d ∷ r) h = absurd (omega arith)
+pub fours_groups : (k : ℕ) (b : List ℕ) → k ≡ length b / 4 → groups_in (first_chunks 4 k b) ≡ groups_of b
+fours_groups zero [] h = refl
+fours_groups zero (a ∷ []) h = refl
+fours_groups zero (a ∷ b ∷ []) h = refl
+fours_groups zero (a ∷ b ∷ c ∷ []) h = refl
+fours_groups zero (a ∷ b ∷ c ∷ d ∷ bs) h = absurd (omega arith)
+fours_groups (suc k) [] h = absurd (omega arith)
+fours_groups (suc k) (a ∷ []) h = absurd (omega arith)
+fours_groups (suc k) (a ∷ b ∷ []) h = absurd (omega arith)
+fours_groups (suc k) (a ∷ b ∷ c ∷ []) h = absurd (omega arith)
+fours_groups (suc k) (a ∷ b ∷ c ∷ d ∷ bs) h = ap (λ (gs : List ℕ). group_of a b c d ∷ gs) (fours_groups k bs (omega arith))
 
 -- words added to a sum: those of the bytes before an even place, and then those after it
 cut_sum : (k s : ℕ) (b : List ℕ) → sum_from (sum_from s (words_of (take (k + k) b))) (words_of (drop (k + k) b)) ≡ sum_from s (words_of b)
@@ -108,3 +106,8 @@ module _ (b : List ℕ) (m : ℕ) (all : Bytes b) (whole : WholeGroups m) (withi
   front_sum =
       let half : m / 2 + m / 2 ≡ m = omega (arith, whole.0) in
       rw (grouping (take m b) (below_take m all) front) (rw half at (cut_sum (m / 2) 0 b))
+
+-- what `groups_sum` and `ones_sum` are proved by
+pub ruleset whole_groups = (fours_groups, groups_below)
+
+pub ruleset front_and_rest = (front_below, front_sum, pairs_sum, words_odd, words_none)

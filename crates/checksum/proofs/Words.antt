@@ -1,41 +1,38 @@
 -- How the words of a list of bytes are read off its front.
 use mathlib.Core.Path.{◌≡◌, refl, ap}
-use mathlib.Core.List.{List, [], ◌∷◌, ◌++◌}
-use Prim.Native.Nat.{ℕ, zero, suc, ◌+◌, ◌-◌, ◌*◌, ◌%◌, ◌≤◌, ◌<◌}
+use mathlib.Core.List.{List, [], ◌∷◌}
+use Prim.Native.Nat.{ℕ, zero, suc, ◌+◌, ◌*◌, ◌/◌, ◌≤◌, ◌<◌}
 use native.Mathlib.Nat.{suc-add, add-suc, not-suc-le-zero, lt_irrefl}
 use native.Mathlib.Omega.{arith}
-use lib.ListN.{length, length-append, get_or, set, drop}
+use lib.ListN.{length, get_or, set, drop}
 use lib.Dec.{lit<}
-use lib.Seq.{drop-append-add}
-use Rattle.checksum.specs.Ones.{words_of, word_at, Bytes, Words}
+use Rattle.std.proofs.Common.{map}
+use Rattle.std.specs.Simd.{first_chunks}
+use Rattle.checksum.specs.Ones.{words_of, word_at, ones_add, sum_from, Bytes, Words}
 use Rattle.lists.proofs.Below.{below_nil, below_cons, below_tail}
 
--- two bytes and then others: the word of the two, and the words of the others
-pub words_front : (x r : List ℕ) → length x ≡ 2 → words_of (x ++ r) ≡ word_at x 0 ∷ words_of r
-words_front [] r h = absurd (omega arith)
-words_front (a ∷ []) r h = absurd (omega arith)
-words_front (a ∷ b ∷ []) r h = refl
-words_front (a ∷ b ∷ c ∷ x) r h = absurd (omega arith)
+-- the words of pairs of bytes
+abbrev pub words_in : List (List ℕ) → List ℕ
+words_in pairs = map (λ (x : List ℕ). word_at x 0) pairs
 
--- the byte that is left where an odd number of them is cut two by two, or none
-abbrev pub left_over : List ℕ → List ℕ
-left_over r = drop (length r - length r % 2) r
+-- words added to a sum: those of the pairs, and then that of an odd last byte
+pub pairs_sum : (k s : ℕ) (r : List ℕ) → k ≡ length r / 2 → sum_from s (words_of r) ≡ sum_from (sum_from s (words_in (first_chunks 2 k r))) (words_of (drop (k * 2) r))
+pairs_sum zero s r h = refl
+pairs_sum (suc k) s [] h = absurd (omega arith)
+pairs_sum (suc k) s (a ∷ []) h = absurd (omega arith)
+pairs_sum (suc k) s (a ∷ b ∷ r) h =
+    let past : suc k * 2 ≡ suc (suc (k * 2)) = omega arith in
+    rw past (pairs_sum k (ones_add s (a * 256 + b)) r (omega arith))
 
-pub left_over_front : (x r : List ℕ) → length x ≡ 2 → left_over (x ++ r) ≡ left_over r
-left_over_front x r h =
-    let cut : length (x ++ r) - length (x ++ r) % 2 ≡ length x + (length r - length r % 2) = omega (arith, length-append x r) in
-    rw cut (drop-append-add x r (length r - length r % 2))
-
--- of fewer than two bytes one is left over, the high byte of a word, or none
-pub words_odd : (r : List ℕ) → length r < 2 → 1 ≤ length (left_over r) → words_of r ≡ (get_or (left_over r) 0 0 * 256) ∷ []
+-- of fewer than two bytes one is the high byte of a word
+pub words_odd : (r : List ℕ) → length r < 2 → 1 ≤ length r → words_of r ≡ (get_or r 0 0 * 256) ∷ []
 words_odd [] few some = absurd (omega arith)
 words_odd (a ∷ []) few some = refl
 words_odd (a ∷ b ∷ r) few some = absurd (omega arith)
 
-pub words_even : (r : List ℕ) → length r < 2 → length (left_over r) < 1 → words_of r ≡ []
-words_even [] few none = refl
-words_even (a ∷ []) few none = absurd (omega arith)
-words_even (a ∷ b ∷ r) few none = absurd (omega arith)
+pub words_none : (r : List ℕ) → length r < 1 → words_of r ≡ []
+words_none [] none = refl
+words_none (a ∷ r) none = absurd (omega arith)
 
 -- the words of bytes fit sixteen bits
 pub words_fit : (b : List ℕ) → Bytes b → Words (words_of b)

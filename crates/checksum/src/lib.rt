@@ -1,9 +1,9 @@
 // The Internet checksum: RFC 1071's sum over a slice of bytes, and RFC 1624's edit for one changed word.
 #![tactic(auto)]
 
-ghost use Rattle.std.specs.Prelude.{◌≡◌, ◌+◌, ◌*◌, ◌<◌, ◌≤◌, length};
+ghost use Rattle.std.specs.Prelude.{◌≡◌, ◌+◌, ◌<◌, ◌≤◌, length};
 ghost use Rattle.checksum.specs.Ones.{carried, ones_add, words_of, word_at, ones_sum, verifies, edited};
-ghost use Rattle.checksum.specs.Ones.{group_of, groups_of, group_at, WholeGroups, total, Foldable, folded};
+ghost use Rattle.checksum.specs.Ones.{groups_of, WholeGroups, total, Foldable, folded};
 
 // The most bytes that are summed by groups before a fold.
 const MOST_IN_GROUPS: usize = 65532;
@@ -31,14 +31,15 @@ pub fn word_at(b: &[u8], at: usize) -> u16
 }
 
 // The plain sum of the groups of `b`.
-#[tactic(auto, using(crate::proofs::Grouping::groups_next, crate::proofs::Grouping::groups_none, crate::proofs::Grouping::groups_below))]
+#[tactic(auto, using(crate::proofs::Grouping::whole_groups))]
 fn groups_sum(b: &[u8]) -> u64
     requires { WholeGroups (length b.now) }
     ensures { result ≡ total (groups_of b.now) }
 {
+    let (groups, _) = b.as_chunks::<4>();
     let mut sum = 0;
-    for group in b.chunks_exact(4) {
-        sum += u64::from(u32::from_be_bytes([group[0], group[1], group[2], group[3]]));
+    for group in groups {
+        sum += u64::from(u32::from_be_bytes(*group));
     }
     sum
 }
@@ -58,24 +59,20 @@ fn fold(sum: u64) -> u16
 fn in_groups(length: usize) -> usize
     ensures { WholeGroups result × (result ≤ length) }
 {
-    if length < MOST_IN_GROUPS {
-        length / 4 * 4
-    } else {
-        MOST_IN_GROUPS
-    }
+    length.min(MOST_IN_GROUPS) / 4 * 4
 }
 
 // The one's complement sum of the words of `b`; an odd last byte counts as a high byte. The first bytes are summed by groups and what
 // is left by words: of an IP header nothing is.
+#[tactic(auto, using(crate::proofs::Grouping::front_and_rest))]
 pub fn ones_sum(b: &[u8]) -> u16
     ensures { result ≡ ones_sum (words_of b.now) }
 {
-    let (groups, rest) = b.split_at(in_groups(b.len()));
-    let words = rest.chunks_exact(2);
-    let odd = words.remainder();
-    let mut sum = fold(groups_sum(groups));
+    let (front, rest) = b.split_at(in_groups(b.len()));
+    let (words, odd) = rest.as_chunks::<2>();
+    let mut sum = fold(groups_sum(front));
     for word in words {
-        sum = ones_add(sum, u16::from_be_bytes([word[0], word[1]]));
+        sum = ones_add(sum, u16::from_be_bytes(*word));
     }
     match odd {
         [last] => ones_add(sum, u16::from_be_bytes([*last, 0])),
@@ -87,7 +84,7 @@ pub fn ones_sum(b: &[u8]) -> u16
 pub fn is_valid(b: &[u8]) -> bool
     ensures { result ≡ verifies (words_of b.now) }
 {
-    ones_sum(b) == 65535
+    ones_sum(b) == u16::MAX
 }
 
 // The checksum `hc` after one word changed from `old` to `new`: RFC 1624, equation 3.
@@ -95,5 +92,5 @@ pub fn is_valid(b: &[u8]) -> bool
 pub fn edit(hc: u16, old: u16, new: u16) -> u16
     ensures { result ≡ edited hc old new }
 {
-    65535 - ones_add(ones_add(65535 - hc, 65535 - old), new)
+    !ones_add(ones_add(!hc, !old), new)
 }

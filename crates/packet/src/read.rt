@@ -67,7 +67,7 @@ pub struct Packet {
     pub transport: TransportHeader,
 }
 
-// Refusal 6.
+// Whether the version or a length is wrong: refusal 6.
 #[tactic(auto, unfolding(crate::specs::Reading::broken))]
 fn is_broken(p: &[u8]) -> bool
     ensures { result ≡ broken p.now }
@@ -79,7 +79,7 @@ fn is_broken(p: &[u8]) -> bool
         || p.len() < length_at(p, 2)
 }
 
-// The header checksum is valid; where it is not, that is refusal 20.
+// Whether the header checksum is valid; where it is not, that is refusal 20.
 fn is_header_valid(p: &[u8]) -> bool
     requires { Whole p.now }
     ensures { result ≡ header_verifies p.now }
@@ -87,7 +87,7 @@ fn is_header_valid(p: &[u8]) -> bool
     is_valid(&p[..header_length(p)])
 }
 
-// Refusal 7.
+// Whether the packet is a fragment: refusal 7.
 #[tactic(auto, unfolding(crate::specs::Reading::fragment))]
 fn is_fragment(p: &[u8]) -> bool
     requires { Whole p.now }
@@ -170,7 +170,8 @@ fn read_udp(t: &[u8]) -> Result<TransportHeader, Fault>
     })
 }
 
-// The transport part, by the service's protocol: 6 is TCP, and the only other is UDP.
+// The transport part, by the service's protocol: 6 is TCP, and the only other is UDP. It stays a number, since the contracts of `read_packet`
+// and `redirect_packet` hold for every u8, and the laws of specs/ speak of every number.
 fn read_transport(protocol: u8, t: &[u8]) -> Result<TransportHeader, Fault>
     ensures { result ≡ read_transport protocol t.now }
 {

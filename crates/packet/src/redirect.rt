@@ -34,7 +34,8 @@ impl Side {
     }
 }
 
-// Where the checksum stands in the transport part.
+// Where the checksum stands in the transport part, 6 being TCP. The protocol stays a number, as in `read_transport`: the contract of
+// `redirect_packet` holds for every u8.
 fn sum_place(protocol: u8) -> usize
     ensures { result ≡ sum_place protocol }
 {
