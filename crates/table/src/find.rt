@@ -4,7 +4,7 @@ ghost use Rattle.table.specs.Slots.{words_per_slot, slots, slot_of_words, is_unu
 ghost use Rattle.table.specs.Find.{of_client, first_from};
 ghost use Rattle.table.specs.Changes.{freed};
 
-use crate::slot::{Slot, SlotNo, WORDS, slots_of};
+use crate::slot::{Slot, SlotNo, WORDS, slot_at, slots_of};
 
 impl Slot {
     // Whether this is a used slot of a client. A client host's connections share its address but not their ports, so the port is
@@ -16,20 +16,28 @@ impl Slot {
     }
 }
 
-// The place of the first used slot of a client among the words of slots.
-fn first_of_client(slots: &[[u32; WORDS]], address: u32, port: u16) -> Option<usize>
-    ensures { result ≡ position (λ w. of_client address port (slot_of_words w)) slots.now }
-{
-    slots
-        .iter()
-        .position(|words| Slot::from(*words).is_of(address, port))
-}
-
-// The lowest used slot of a client.
+// The lowest used slot of a client. Two slots a turn, since that is faster: in a turn for each slot, what counts the turns is as much
+// as what looks at the slot.
 pub fn find_client(row: &[u32], address: u32, port: u16) -> Option<SlotNo>
     ensures { result ≡ first_from (of_client address port) 0 (slots row.now) }
 {
-    first_of_client(slots_of(row), address, port).map(SlotNo)
+    let end = row.len() / WORDS;
+    let pairs = end / 2;
+    for i in 0..pairs {
+        let even = SlotNo(2 * i);
+        if slot_at(row, even).is_of(address, port) {
+            return Some(even);
+        }
+        let odd = SlotNo(2 * i + 1);
+        if slot_at(row, odd).is_of(address, port) {
+            return Some(odd);
+        }
+    }
+    let last = SlotNo(2 * pairs);
+    if last.0 < end && slot_at(row, last).is_of(address, port) {
+        return Some(last);
+    }
+    None
 }
 
 // The place of the first free slot among the words of slots.
