@@ -1,12 +1,26 @@
 -- `expire::expire` meets its contract. The invariant: what is done, with what is still to do, is the whole, and the table is sound (`Expiring`).
-use mathlib.Core.Path.{◌∙◌}
+use Prim.Native.Nat.{◌-◌, ◌<◌}
+use mathlib.Core.Path.{ap, ◌∙◌}
 use native.Mathlib.Omega.{arith}
+use Rattle.table.specs.declared.expire.Limits.{Limits}
+use Rattle.table.specs.declared.slot.Slot.{Slot}
+use Rattle.table.specs.Slots.{slot_at}
+use Rattle.table.proofs.Connections.{recent_stays}
 use Rattle.table.proofs.Expiry.{start, keep, named, remove, done}
 use Rattle.table.proofs.expire.expire.Goals as goal
 use Rattle.table.proofs.expire.expire.Goals.{then-is_idle, else-is_idle}
 
 pub loop-k-init : goal.loop-k-init
 loop-k-init c = (omega arith, start c.args.protocol c.args.n c.args.clock c.args.row.now c.args.servers.now c.requires.1 c.told-servers)
+
+-- a slot seen within the shortest limit stays
+pub loop-k-preserved-then-limits-slot_at : goal.loop-k-preserved-then-limits-slot_at
+loop-k-preserved-then-limits-slot_at c =
+    let a = c.args in
+    let l = c.loop-k in
+    let seen = ap (λ (s : Slot). s.seen) c.slot_at.ensures in
+    let recent : a.clock - 120 < (slot_at l.row l.k).seen = omega (arith, seen, ap (λ (x : Limits). x.recent) c.at-limits.ensures) in
+    (omega arith, keep l.invariant.1 (omega arith) (recent_stays a.protocol a.clock (slot_at l.row l.k) recent))
 
 pub lower-requires : goal.lower-requires
 lower-requires c = named c.loop-k.invariant.1 (omega arith) (cc) c.slot_at-slot.ensures (omega arith)
