@@ -83,14 +83,13 @@ pub fn expire(row: &mut [u32], servers: &mut [Server; 64], protocol: u8, n: u32,
         let k = SlotNo(k);
         // Most slots of a busy table were seen within the shortest limit. That word is read first, and alone: where the whole slot is read
         // first, such a slot costs 5 instructions more.
-        if limits.recent < slot_at(row, k).seen {
-            continue;
-        }
-        let slot = slot_at(row, k);
-        if slot.is_idle(protocol, clock, limits) {
-            lower(servers, slot.server);
-            free_slot(row, k);
-            removed += 1;
+        if slot_at(row, k).seen <= limits.recent {
+            let slot = slot_at(row, k);
+            if slot.is_idle(protocol, clock, limits) {
+                lower(servers, slot.server);
+                free_slot(row, k);
+                removed += 1;
+            }
         }
     }
     removed
