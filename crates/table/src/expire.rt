@@ -46,17 +46,6 @@ impl Limits {
             recent: clock.saturating_sub(SHORTEST),
         }
     }
-
-    // The limit of a phase.
-    fn of_phase(self, phase: u32, protocol: u8, clock: u32) -> u32
-        requires { self ≡ limits_at protocol clock }
-        ensures { result ≡ idle_limit protocol phase }
-    {
-        match phase {
-            4 => self.finished,
-            _ => self.running,
-        }
-    }
 }
 
 impl Slot {
@@ -65,7 +54,12 @@ impl Slot {
         requires { (self.seen ≤ clock) × (limits ≡ limits_at protocol clock) }
         ensures { result ≡ is_idle protocol clock self }
     {
-        self.phase != 0 && limits.of_phase(self.phase, protocol, clock) <= clock - self.seen
+        let age = clock - self.seen;
+        match self.phase {
+            0 => false,
+            4 => limits.finished <= age,
+            _ => limits.running <= age,
+        }
     }
 }
 
