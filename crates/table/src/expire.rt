@@ -46,28 +46,20 @@ impl Limits {
             recent: clock.saturating_sub(SHORTEST),
         }
     }
-
-    // The limit of a phase.
-    fn of_phase(self, phase: u32, protocol: u8, clock: u32) -> u32
-        requires { self ≡ limits_at protocol clock }
-        ensures { result ≡ idle_limit protocol phase }
-    {
-        match phase {
-            4 => self.finished,
-            _ => self.running,
-        }
-    }
 }
 
 impl Slot {
-    // Whether a slot holds an idle connection. Most slots of a busy table were seen within the shortest limit, so that is asked first.
+    // Whether a slot that was not seen after the clock holds an idle connection.
     fn is_idle(self, protocol: u8, clock: u32, limits: Limits) -> bool
-        requires { limits ≡ limits_at protocol clock }
+        requires { (self.seen ≤ clock) × (limits ≡ limits_at protocol clock) }
         ensures { result ≡ is_idle protocol clock self }
     {
-        self.seen <= limits.recent
-            && self.phase != 0
-            && limits.of_phase(self.phase, protocol, clock) <= clock - self.seen
+        let age = clock - self.seen;
+        match self.phase {
+            0 => false,
+            4 => limits.finished <= age,
+            _ => limits.running <= age,
+        }
     }
 }
 
@@ -82,11 +74,16 @@ pub fn expire(row: &mut [u32], servers: &mut [Server; 64], protocol: u8, n: u32,
     let mut removed = 0;
     // by number, and not over the slots as arrays: the loop writes the row
     for k in 0..row.len() / WORDS {
-        let slot = slot_at(row, SlotNo(k));
-        if slot.is_idle(protocol, clock, limits) {
-            lower(servers, slot.server);
-            free_slot(row, SlotNo(k));
-            removed += 1;
+        let k = SlotNo(k);
+        // Most slots of a busy table were seen within the shortest limit. That word is read first, and alone: where the whole slot is read
+        // first, such a slot costs 5 instructions more.
+        if slot_at(row, k).seen <= limits.recent {
+            let slot = slot_at(row, k);
+            if slot.is_idle(protocol, clock, limits) {
+                lower(servers, slot.server);
+                free_slot(row, k);
+                removed += 1;
+            }
         }
     }
     removed
