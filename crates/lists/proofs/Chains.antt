@@ -94,7 +94,7 @@ get_or-beside (x ∷ l) (y ∷ m) d e (suc i) h = get_or-beside l m d e i (omega
 
 -- an array made from its places by a closure that changes nothing
 module _ {F B : Type 0} (g : Mut F (ℕ × Unit {0}) B) (h : ℕ → B) (f : F)
-  (pure : (i : ℕ) (y : B) (q : F) → Called g f (i, tt) y q → (q ≡ f) × (y ≡ h i)) where
+    (pure : (i : ℕ) (y : B) (q : F) → Called g f (i, tt) y q → (q ≡ f) × (y ≡ h i)) where
   each_made : (ys : List B) (i n k : ℕ) (d : B) → IsFromFnResultFrom g f ys i n → i ≤ k → k < i + n → get_or ys k d ≡ h k
   each_made ys i zero k d made low high = absurd (omega arith)
   each_made ys i (suc n) k d (q, y, at, called, rest) low high =

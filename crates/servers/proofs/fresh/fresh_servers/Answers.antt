@@ -1,5 +1,4 @@
 -- `servers::fresh::fresh_servers` meets its contract: each place of the array is that of the fold.
-use mathlib.Core.Path.{◌≡◌}
 use borrow.Author.Rules.{rules}
 use borrow.Author.Tests.{tests}
 use Rattle.lists.proofs.Chains.{all_made}
