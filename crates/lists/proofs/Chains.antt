@@ -3,12 +3,16 @@ use Prim.Native.Nat.{ℕ, zero, suc, ◌+◌, ◌≤◌, ◌<◌}
 use mathlib.Core.Bool.{Bool, true, false, ◌&&◌, ◌||◌, and-true}
 use mathlib.Core.List.{List, [], ◌∷◌}
 use mathlib.Core.Logic.{⊎_elim}
-use mathlib.Core.Path.{◌≡◌, refl, sym, ap, ◌∙◌}
+use mathlib.Core.Path.{◌≡◌, refl, sym, ap, subst, ◌∙◌}
+use native.Mathlib.Nat.{eq-or-lt_of_le}
 use native.Mathlib.Numerals.{add-one}
+use denote.Param.Members.{Mut}
 use native.Mathlib.Omega.{arith}
 use borrow.Author.Tests.{lt-ltb, le-ltb, leb-true, leb-false}
 use lib.Dec.{ltb, leb}
 use lib.ListN.{length, get_or, take, drop}
+use Rattle.std.specs.Array.{IsFromFnResult, IsFromFnResultFrom}
+use Rattle.std.specs.Fn.{Called}
 use Rattle.std.specs.List.{fold, list_all, position_or_len, zip}
 use Rattle.std.proofs.lemmas.List.{take_all, get_or_past, length-drop, get_or-drop}
 use Rattle.std.proofs.lemmas.List.Folds.{list_all_more}
@@ -87,3 +91,18 @@ get_or-beside [] (y ∷ m) d e i h = absurd (omega arith)
 get_or-beside (x ∷ l) [] d e i h = absurd (omega arith)
 get_or-beside (x ∷ l) (y ∷ m) d e zero h = refl
 get_or-beside (x ∷ l) (y ∷ m) d e (suc i) h = get_or-beside l m d e i (omega arith)
+
+-- an array made from its places by a closure that changes nothing
+module _ {F B : Type 0} (g : Mut F (ℕ × Unit {0}) B) (h : ℕ → B) (f : F)
+    (pure : (i : ℕ) (y : B) (q : F) → Called g f (i, tt) y q → (q ≡ f) × (y ≡ h i)) where
+  each_made : (ys : List B) (i n k : ℕ) (d : B) → IsFromFnResultFrom g f ys i n → i ≤ k → k < i + n → get_or ys k d ≡ h k
+  each_made ys i zero k d made low high = absurd (omega arith)
+  each_made ys i (suc n) k d (q, y, at, called, rest) low high =
+      let (same, is) = pure i y q called in
+      ⊎_elim
+      (λ (e : i ≡ k). rw (← e) (at.1 d ∙ is))
+      (λ (l : i < k). each_made ys (i + 1) n k d (subst (λ p. IsFromFnResultFrom g p ys (i + 1) n) same rest) (omega arith) (omega arith))
+      (eq-or-lt_of_le low)
+
+  pub all_made : (ys : List B) (n k : ℕ) (d : B) → IsFromFnResult g f ys n → k < n → get_or ys k d ≡ h k
+  all_made ys n k d made l = each_made ys 0 n k d made.each (omega arith) (omega arith)

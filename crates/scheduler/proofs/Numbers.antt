@@ -1,9 +1,6 @@
--- What holds of every scheduler holds of the scheduler of a number, and the last arm's numbers. Assumes nothing.
-use mathlib.Core.Path.{◌≡◌}
-use mathlib.Core.Logic.{◌≢◌}
+-- What holds of every scheduler holds of the scheduler of a number. Assumes nothing.
 use Prim.Native.Nat.{ℕ}
 use lib.Dec.{eqb}
-use borrow.Author.Tests.{ne_eqb}
 use Rattle.lists.proofs.Cases.{by_test}
 use Rattle.scheduler.specs.Scheduler.{Scheduler}
 use Rattle.scheduler.specs.RoundRobin.{round_robin}
@@ -16,6 +13,3 @@ pub by_number : (P : Scheduler → Type 0) (k : ℕ)
     → P round_robin → P weighted_round_robin → P least_connection → P weighted_least_connection → P (scheduler_of k)
 by_number P k p₁ p₂ p₃ p₄ =
     by_test P (eqb k 1) _ _ (λ e. p₁) (λ n₁. by_test P (eqb k 2) _ _ (λ e. p₂) (λ n₂. by_test P (eqb k 3) _ _ (λ e. p₃) (λ n₃. p₄)))
-
-pub last-number : (k : ℕ) → k ≢ 1 → k ≢ 2 → k ≢ 3 → weighted_least_connection ≡ scheduler_of k
-last-number k a b c = simp (ne_eqb k 1 a, ne_eqb k 2 b, ne_eqb k 3 c)

@@ -11,7 +11,7 @@ use borrow.Author.Tests.{ltb-true, ltb-false, leb-true, leb-false}
 use Rattle.std.specs.Prelude.{Option, Some, None}
 use Rattle.lists.proofs.Cases.{by_test, truth}
 use Rattle.scheduler.specs.Laws.{AfterLaw, level_after, IsFirst, SomeTaken, RingLaw}
-use Rattle.scheduler.specs.Ring.{most_passed, after_in, next_of, picked_at, ring_from, ring_of}
+use Rattle.scheduler.specs.Ring.{most_passed, after_in, next_of, picked_at, ring_from}
 use Rattle.scheduler.specs.declared.walk.Walk.{Walk}
 use Rattle.scheduler.specs.declared.walk.Pick.{Pick}
 use Rattle.servers.specs.declared.ServerNo.{ServerNo}
@@ -47,11 +47,6 @@ distance n i j p q =
 -- the walk that comes to i at the level cw, and may pass k numbers, picks x
 pub record Picks (level : ℕ → ℕ → ℕ) (picks : ℕ → ℕ → Bool) (n k i cw : ℕ) (x : Pick) : Type 0 where
   pub whole : ring_from level picks n k i cw ≡ x
-
--- a walk that begins once round
-pub ring_begun : (level : ℕ → ℕ → ℕ) (picks : ℕ → ℕ → Bool) (n k i : ℕ) (w : Walk) → k ≡ most_passed n → i ≡ next_of n w.place
-    → Picks level picks n k i w.level (ring_of level picks n w)
-ring_begun level picks n k i w h e = record { whole = rw (h, e) refl }
 
 module _ {level : ℕ → ℕ → ℕ} {picks : ℕ → ℕ → Bool} {n i cw : ℕ} {x : Pick} where
   -- a number that is taken at its level l ends the walk

@@ -7,7 +7,8 @@ use crate::weights::Weights;
 use servers::Server;
 
 pub trait Algorithm {
-    // What it says, as specs/ has it: `Ranged` and `Picking` are proved of it there, for each.
+    // What it says, as a record of four functions. (Its laws, `Ranged` and `Picking`, stand in specs/ and are proved for each in proofs/: the impl
+    // of a trait with laws may cite specs/ alone, which hold no proofs here.)
     ghost says: { Self → Scheduler };
 
     // Where its walk among n servers starts.

@@ -34,10 +34,7 @@ pub fn after(no: ServerNo, n: u32) -> ServerNo
 pub fn next(place: Option<ServerNo>, n: u32) -> ServerNo
     ensures { result.0 ≡ next_of n place }
 {
-    match place {
-        None => ServerNo(0),
-        Some(no) => after(no, n),
-    }
+    place.map_or(ServerNo(0), |no| after(no, n))
 }
 
 // A server picked, with the walk moved to it.

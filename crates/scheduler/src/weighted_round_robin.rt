@@ -60,11 +60,7 @@ impl Algorithm for WeightedRoundRobin {
     }
 
     fn in_range(&self, top: u16, n: u32, walk: Walk) -> bool {
-        walk.level <= top
-            && match walk.place {
-                None => true,
-                Some(no) => walk.level != 0 && no.0 < n,
-            }
+        walk.level <= top && walk.place.is_none_or(|no| walk.level != 0 && no.0 < n)
     }
 
     // At its start again where the weights differ.

@@ -1,11 +1,8 @@
 -- `ring::go_round` meets its contract. The loop's invariant: the walk from here on, with what is left of the ring, picks what the whole walk picks.
 use mathlib.Core.Path.{sym, ◌∙◌}
 use native.Mathlib.Omega.{arith}
-use Rattle.scheduler.proofs.Rings.{ring_begun, ring_here, ring_end, ring_on}
+use Rattle.scheduler.proofs.Rings.{ring_here, ring_end, ring_on}
 use Rattle.scheduler.proofs.ring.go_round.Goals as goal
-
-pub loop-passed-init : goal.loop-passed-init
-loop-passed-init g c = ring_begun _ _ _ _ _ c.args.walk (omega arith) c.next-no.ensures
 
 pub returns-then-takes : goal.returns-then-takes
 returns-then-takes g c = rw c.picked_at.ensures (ring_here c.loop-passed.invariant c.level_at-level.ensures (sym c.takes.ensures ∙ c.if-takes.true))

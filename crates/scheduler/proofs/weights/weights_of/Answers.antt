@@ -13,6 +13,6 @@ pub returns : goal.returns
 returns c =
     let s = c.args.servers.now in
     let found : c.fold.result ≡ fold with_server no_weights (take c.args.n s) =
-        fold_from_yields_List _ with_server no_weights c.fold.result c.fold.ensures.ran (YieldsList-from_take c.args.n (YieldsList-from_slice s cc) cc)
-        (λ a x b q k. search (rules, tests)) in
+    fold_from_yields_List _ with_server no_weights c.fold.result c.fold.ensures.ran (YieldsList-from_take c.args.n (YieldsList-from_slice s cc) cc)
+    (λ a x b q k. search (rules, tests)) in
     found ∙ weights_chained s c.args.n

@@ -1,19 +1,13 @@
--- `servers::fresh::fresh_servers` meets its contract: each turn is one of the fold, which changes nothing past the array.
-use Prim.Native.Nat.{min}
-use mathlib.Core.Path.{◌≡◌, ap, ◌∙◌}
-use native.Mathlib.Omega.{arith}
-use Rattle.lists.proofs.Folds.{fold_none, fold_next}
-use Rattle.servers.specs.Fresh.{fresh_servers}
-use Rattle.servers.proofs.Freshness.{fresh_most}
+-- `servers::fresh::fresh_servers` meets its contract: each place of the array is that of the fold.
+use borrow.Author.Rules.{rules}
+use borrow.Author.Tests.{tests}
+use Rattle.lists.proofs.Chains.{all_made}
+use Rattle.servers.specs.Servers.{unused}
+use Rattle.servers.proofs.Freshness.{fresh_place, fresh_whole}
 use Rattle.servers.proofs.fresh.fresh_servers.Goals as goal
-
-pub loop-at-init : goal.loop-at-init
-loop-at-init c = simp (c.unused-made.ensures, fold_none)
-
-pub loop-at-preserved : goal.loop-at-preserved
-loop-at-preserved c = simp (c.loop-at.invariant, fold_next)
 
 pub returns : goal.returns
 returns c =
-    let all : c.loop-at.at ≡ min c.args.n 64 = omega arith in
-    c.loop-at.invariant ∙ ap (fresh_servers c.args.given.now) all ∙ fresh_most c.args.given.now c.args.n
+    let made = c.from_fn.ensures.items in
+    fresh_whole c.args.given.now c.args.n c.from_fn.result made.long
+    (λ j h. all_made _ (fresh_place c.args.given.now c.args.n) _ (λ i y q k. search (k, rules, tests) fits 30000) c.from_fn.result 64 j unused made h)
