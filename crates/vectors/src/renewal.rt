@@ -14,17 +14,11 @@ struct Words(Slot);
 
 impl fmt::Display for Words {
     fn fmt<W: fmt::Write>(&self, f: &mut fmt::Formatter<W>) -> fmt::Result {
-        let Slot {
-            phase,
-            address,
-            port,
-            server,
-            seen,
-        } = self.0;
-        let no = server.0;
+        let slot = self.0;
         write!(
             f,
-            "phase {phase}, client {address:08x} {port}, server {no}, last seen {seen}"
+            "phase {}, client {:08x} {}, server {}, last seen {}",
+            slot.phase, slot.address, slot.port, slot.server.0, slot.seen
         )
     }
 }
