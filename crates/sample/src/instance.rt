@@ -1,11 +1,11 @@
 // A director and its connection table, which every call takes together.
-ghost use Rattle.std.specs.Prelude.{◌≡◌, []};
+ghost use Rattle.std.specs.Prelude.{◌≡◌, [], replicate};
 ghost use Rattle.director.specs.declared.state.Way.{Way};
 ghost use Rattle.director.specs.Control.{weight_of, count_call_of};
 ghost use Rattle.director.specs.Packets.{packet_of};
 ghost use Rattle.director.specs.Setup.{setup_of};
 ghost use Rattle.director.specs.Tick.{tick_of};
-ghost use Rattle.sample.specs.Instance.{answered};
+ghost use Rattle.sample.specs.Instance.{answered, Sent};
 
 use crate::begin::{CLIENT, VIRTUAL, blank};
 use crate::frame::tcp;
@@ -13,7 +13,7 @@ use crate::print::Told;
 use director::control::{count, set_weight};
 use director::packets::{inbound, outbound};
 use director::setup::set_up;
-use director::state::{Director, Outcome, Service};
+use director::state::{Director, Service};
 use director::tick::tick;
 use servers::{Server, ServerNo};
 
@@ -24,9 +24,12 @@ pub struct Instance<const WORDS: usize> {
     pub row: [u32; WORDS],
 }
 
+// The director's six calls by their names, and two that make the packet themselves.
 impl<const WORDS: usize> Instance<WORDS> {
     // Nothing is set up, and the row is zeros.
-    pub fn new() -> Self {
+    pub fn new() -> Self
+        ensures { result.row ≡ replicate WORDS 0 }
+    {
         Instance {
             director: blank(),
             row: [0; WORDS],
@@ -80,13 +83,17 @@ impl<const WORDS: usize> Instance<WORDS> {
     }
 
     // A segment of a client's port to the service.
-    pub fn from_client(&mut self, port: u16, flags: u8, clock: u32) -> Told {
+    pub fn from_client(&mut self, port: u16, flags: u8, clock: u32) -> Told
+        ensures { Sent Way.Inbound clock result.0 self.old.director self.old.row self.new.director self.new.row }
+    {
         let mut packet = tcp(CLIENT, port, VIRTUAL, 5432, flags);
         self.inbound(&mut packet, clock)
     }
 
     // A segment of a server to a client's port.
-    pub fn from_server(&mut self, server: u32, port: u16, flags: u8, clock: u32) -> Told {
+    pub fn from_server(&mut self, server: u32, port: u16, flags: u8, clock: u32) -> Told
+        ensures { Sent Way.Outbound clock result.0 self.old.director self.old.row self.new.director self.new.row }
+    {
         let mut packet = tcp(server, 6432, CLIENT, port, flags);
         self.outbound(&mut packet, clock)
     }

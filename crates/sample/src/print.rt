@@ -11,14 +11,14 @@ impl fmt::Display for Told {
         match self.0 {
             Answer::Done => f.write_str("done"),
             Answer::Number(n) => write!(f, "number {n}"),
-            Answer::Passed(server, change) => write!(f, "{}, server {}", word(change), server.0),
+            Answer::Passed(server, change) => write!(f, "{}, server {}", name(change), server.0),
             Answer::Refused(why) => write!(f, "refused, number {}", u8::from(why)),
         }
     }
 }
 
 // What became of an accepted packet's connection.
-fn word(change: Change) -> &'static str {
+fn name(change: Change) -> &'static str {
     match change {
         Change::Opened => "opened",
         Change::Kept => "kept",

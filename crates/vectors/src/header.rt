@@ -51,7 +51,7 @@ fn ones(rt: &impl Print) -> io::Result<()> {
     println!(rt; "header checksum: ffff in place of 0000")?;
     let mut instance: Instance<5> = begin(rt)?;
     let mut packet = p11(0x45, 0x4000, 0x40, 0xFFFF);
-    // the identification: what the others lack
+    // the identification, with which the words but the checksum sum to FFFF
     set_word(&mut packet, 4, 0x6EC5);
     println!(rt; "  {}", instance.inbound(&mut packet, 1))
 }

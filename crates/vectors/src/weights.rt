@@ -3,17 +3,15 @@ use director::state::Service;
 use sample::begin::{FIRST, SECOND, replica, replicas, service};
 use sample::instance::Instance;
 use sample::print::Told;
+use scheduler::weights::Weights;
 use servers::{Server, ServerNo};
 use std::io;
 
 // The answer to a call, and then both numbers that the state after it holds.
 fn print_weights(rt: &impl Print, told: Told, instance: &Instance<5>) -> io::Result<()> {
     println!(rt; "  {told}")?;
-    let weights = instance.director.weights;
-    println!(rt;
-        "  largest weight {}, divisor {}",
-        weights.largest, weights.divisor
-    )
+    let Weights { largest, divisor } = instance.director.weights;
+    println!(rt; "  largest weight {largest}, divisor {divisor}")
 }
 
 // Three servers, of weights 6, 4 and 0.
