@@ -1,15 +1,15 @@
 -- A valid checksum among words of bytes is what a fresh calculation gives, if it is not FFFF; with RFC 768's rule also if it is.
-use mathlib.Core.Path.{◌≡◌, sym, ap, ◌∙◌}
+use mathlib.Core.Path.{◌≡◌, refl, sym, ap, ◌∙◌}
 use mathlib.Core.Logic.{◌≢◌, ⊎_elim}
-use mathlib.Core.List.{List, [], ◌∷◌, ◌++◌}
+use mathlib.Core.List.{List, ◌++◌}
 use mathlib.Core.Bool.{true}
-use Prim.Native.Nat.{ℕ, ◌+◌, ◌/◌, ◌%◌, ◌<◌}
-use native.Mathlib.Nat.{zero-add, suc-add}
+use Prim.Native.Nat.{ℕ, ◌+◌, ◌-◌, ◌/◌, ◌%◌, ◌<◌}
 use native.Mathlib.Omega.{arith}
 use lib.ListN.{length, get_or, set, length-append}
 use lib.Seq.{get_or-append-add}
 use lib.Dec.{eqb}
 use borrow.Author.Tests.{eqb-true, eqb-false, ne_eqb}
+use Rattle.std.proofs.lemmas.List.{set-append_right}
 use Rattle.lists.proofs.Cases.{truth}
 use Rattle.checksum.specs.Ones.{word_at, words_of, verifies, edited, fresh, Words}
 use Rattle.checksum.specs.Laws.{Checked}
@@ -18,10 +18,6 @@ use Rattle.checksum.proofs.Edits.{edited-fits}
 use Rattle.checksum.proofs.Laws.{laws}
 use Rattle.packet.specs.Bytes.{set_word}
 use Rattle.packet.specs.Redirect.{edited_address, transmitted}
-
-set_append_add : {A : Type 0} (xs ys : List A) (n : ℕ) (a : A) → set (xs ++ ys) (length xs + n) a ≡ xs ++ set ys n a
-set_append_add [] ys n a = rw zero-add
-set_append_add (x ∷ xs) ys n a = rw suc-add (ap (λ (l : List _). x ∷ l) (set_append_add xs ys n a))
 
 -- words of which those of the bytes b come last, with the checksum at an even place of b
 module _ (front b : List ℕ) (k at : ℕ) (even : at ≡ k + k) (fits : at + 1 < length b) (all : Words (front ++ words_of b)) where
@@ -32,7 +28,9 @@ module _ (front b : List ℕ) (k at : ℕ) (even : at ≡ k + k) (fits : at + 1 
   found = get_or-append-add front (words_of b) k 0 ∙ words-at b k fits' ∙ ap (word_at b) (sym even)
 
   bare : set (front ++ words_of b) (length front + k) 0 ≡ front ++ words_of (set_word b at 0)
-  bare = set_append_add front (words_of b) k 0 ∙ ap (λ (ws : List ℕ). front ++ ws) (sym (rw even (words-set b k 0 0 fits')))
+  bare =
+      let here : length front + k - length front ≡ k = omega arith in
+      rw here at (set-append_right front (words_of b) (length front) (length front + k) 0 refl (omega arith)) ∙ ap (λ (ws : List ℕ). front ++ ws) (sym (rw even (words-set b k 0 0 fits')))
 
   checked : Checked (front ++ words_of b) (length front + k)
   checked = record { words = all; place = rw length-append (omega (arith, words-length b k (omega arith))) }
