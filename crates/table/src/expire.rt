@@ -10,8 +10,7 @@ use crate::change::free_slot;
 use crate::slot::{Slot, SlotNo, WORDS, slot_at};
 use servers::{Server, lower};
 
-// The idle limit in seconds, by protocol (17 is UDP) and phase. (Both are numbers, as the C interface
-// lends them.)
+// The idle limit in seconds, by protocol (17 is UDP) and phase. (Both are numbers, as the C interface lends them.)
 pub fn idle_limit(protocol: u8, phase: u32) -> u32
     ensures { result ≡ idle_limit protocol phase }
 {
