@@ -10,7 +10,7 @@ use crate::change::free_slot;
 use crate::slot::{Slot, SlotNo, WORDS, slot_at};
 use servers::{Server, lower};
 
-// The idle limit in seconds, by protocol (17 is UDP) and phase. (Both are numbers, as in the packet and in the lent row.)
+// The idle limit in seconds, by protocol (17 is UDP) and phase. (Both are numbers, as the C interface lends them.)
 pub fn idle_limit(protocol: u8, phase: u32) -> u32
     ensures { result ≡ idle_limit protocol phase }
 {
@@ -49,7 +49,7 @@ impl Limits {
 }
 
 impl Slot {
-    // Whether a slot that was not seen after the clock holds an idle connection.
+    // Whether a slot that was not seen after the clock holds an idle connection. (Phases are numbers, as the C interface lends them.)
     fn is_idle(self, protocol: u8, clock: u32, limits: Limits) -> bool
         requires { (self.seen ≤ clock) × (limits ≡ limits_at protocol clock) }
         ensures { result ≡ is_idle protocol clock self }
@@ -72,7 +72,7 @@ pub fn expire(row: &mut [u32], servers: &mut [Server; 64], protocol: u8, n: u32,
 {
     let limits = Limits::at(protocol, clock);
     let mut removed = 0;
-    // by number, and not over the slots as arrays: the loop writes the row
+    // By number: of a row that is written through `as_chunks_mut` a proof knows nothing at the end.
     for k in 0..row.len() / WORDS {
         let k = SlotNo(k);
         // Most slots of a busy table were seen within the shortest limit. That word is read first, and alone: where the whole slot is read

@@ -1,5 +1,5 @@
 -- `find::find_free_with` meets its contract: each return by what the search for a free slot found.
-use Rattle.std.proofs.lemmas.Grind.{common_steps}
+use Rattle.std.proofs.Common.{rules}
 use Prim.Native.Nat.{◌<◌, ◌≤◌}
 use mathlib.Core.Path.{◌≡◌, sym, ◌∙◌}
 use native.Mathlib.Omega.{arith}
@@ -13,8 +13,11 @@ pub returns-in-Some : goal.returns-in-Some
 returns-in-Some c =
     let l = slots c.args.row.now in
     let low = found_lowest is_unused l _ (sym c.find_free.ensures ∙ c.in-Some.is) in
-    let lower : (c.args.k.0 ≤ c.in-Some.free.0 → c.min.result.0 ≡ c.args.k.0) × (c.in-Some.free.0 < c.args.k.0 → c.min.result.0 ≡ c.in-Some.free.0) = (λ h. grind (arith, common_steps), λ h. grind (arith, common_steps)) in
-    lower_of l c.args.k.0 (omega (arith, length-slots c.args.row.now)) c.in-Some.free.0 c.min.result.0 low lower.0 lower.1
+    let free = c.in-Some.free.0 in
+    let k = c.args.k.0 in
+    let not_below : k ≤ free → c.min.result.0 ≡ k = λ h. search rules in
+    let below : free < k → c.min.result.0 ≡ free = λ h. search rules in
+    lower_of l k (omega (arith, length-slots c.args.row.now)) free c.min.result.0 low not_below below
 
 pub returns-in-None : goal.returns-in-None
 returns-in-None c =

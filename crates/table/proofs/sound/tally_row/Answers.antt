@@ -4,6 +4,8 @@ use mathlib.Core.Path.{◌≡◌, sym, ◌∙◌}
 use native.Mathlib.Omega.{arith}
 use lib.ListN.{length}
 use Rattle.table.specs.Slots.{words_per_slot, slot_at}
+use Rattle.table.specs.Sound.{slot_sound}
+use mathlib.Core.Bool.{true}
 use Rattle.table.proofs.Rows.{chunk_slot, length-chunks}
 use Rattle.table.proofs.Connections.{server_place}
 use Rattle.table.proofs.Tallies.{start, refused, pass, count, done}
@@ -13,16 +15,16 @@ use Rattle.table.proofs.sound.tally_row.Goals.{then-not-is_unused, else-not-is_u
 pub loop-words-init : goal.loop-words-init
 loop-words-init c = start
 
-pub returns-then-not-is_sound : goal.returns-then-not-is_sound
-returns-then-not-is_sound c =
+pub returns-then-not-is_sound_slot : goal.returns-then-not-is_sound_slot
+returns-then-not-is_sound_slot c =
     let (within, same) = chunk_slot c.args.row.now _ c.loop-words.words-index c.slots_of-words-items.ensures (omega arith) in
-    refused c.loop-words.invariant (within, c.from-slot.ensures ∙ same) (sym c.is_sound.ensures ∙ c.if-not-is_sound.true)
+    refused c.loop-words.invariant (within, same) (sym c.is_sound_slot.ensures ∙ c.if-not-is_sound_slot.true)
 
 pub count_one-requires : goal.count_one-requires
 count_one-requires c =
     let a = c.args in
     let used = sym c.is_unused.ensures ∙ c.if-not-is_unused.true in
-    let sound = sym c.is_sound.ensures ∙ c.if-not-is_sound.false in
+    let sound : slot_sound a.protocol a.n a.clock c.from-slot.result ≡ true = rw c.from-slot.ensures (sym c.is_sound_slot.ensures ∙ c.if-not-is_sound_slot.false) in
     let below = server_place a.protocol a.n a.clock c.from-slot.result used (omega arith) sound in
     (below, omega (arith, length-chunks a.row.now _ c.slots_of-words-items.ensures, c.loop-words.invariant.most _ below))
 
@@ -32,7 +34,7 @@ loop-words-preserved c =
     let (within, same) = chunk_slot a.row.now _ c.loop-words.words-index c.slots_of-words-items.ensures (omega arith) in
     let here : (c.loop-words.words-index < length a.row.now / words_per_slot) × (c.from-slot.result ≡ slot_at a.row.now c.loop-words.words-index)
     = (within, c.from-slot.ensures ∙ same) in
-    let sound = sym c.is_sound.ensures ∙ c.if-not-is_sound.false in
+    let sound : slot_sound a.protocol a.n a.clock c.from-slot.result ≡ true = rw c.from-slot.ensures (sym c.is_sound_slot.ensures ∙ c.if-not-is_sound_slot.false) in
     let judged = sym c.is_unused.ensures in
     elim c.if-not-is_unused.branch [
       | then-not-is_unused w ↦
