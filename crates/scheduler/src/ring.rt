@@ -69,7 +69,7 @@ pub fn go_round<R: Round>(by: &R, n: u32, walk: Walk) -> Pick
 {
     let mut no = next(walk.place, n);
     let mut level = walk.level;
-    for _passed in 0..most_passed(n) {
+    for _ in 0..most_passed(n) {
         level = by.level_at(no, level);
         if by.takes(no, level) {
             return picked_at(no, level);

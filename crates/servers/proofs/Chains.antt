@@ -103,7 +103,12 @@ module _ (s : List Server) where
       (rw (get_or-take n s i unused (omega arith)) at here)
 
   pub not_placed : (address port n : ℕ) → n ≤ length s → position (is_at address port) (take n s) ≡ None → None ≡ number_of s address port n
-  not_placed address port n h e = sym (none_among address port n (λ k g. rw (get_or-take n s k unused g) at (none_before (is_at address port) (take n s) unused k (omega (arith, past, length-take-le n s h)) (omega (arith, length-take-le n s h)))))
+  not_placed address port n h e = sym (none_among address port n failed)
     where
       past : length (take n s) ≤ position_or_len (is_at address port) (take n s)
       past = ltb-false _ _ (second _ (Some (position_or_len (is_at address port) (take n s))) None None (λ q. cc) e).0
+
+      failed : (k : ℕ) → k < n → is_at address port (server_at s k) ≡ false
+      failed k g =
+          let in_front : k < length (take n s) = omega (arith, length-take-le n s h) in
+          rw (get_or-take n s k unused g) at (none_before (is_at address port) (take n s) unused k (omega (arith, past)) in_front)
