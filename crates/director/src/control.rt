@@ -1,5 +1,5 @@
 // The weight and count calls.
-ghost use Rattle.std.specs.Prelude.{◌≡◌, [], ◌≤◌};
+ghost use Rattle.std.specs.Prelude.{◌≡◌, []};
 ghost use Rattle.director.specs.State.{result_of};
 ghost use Rattle.director.specs.Control.{number_judged, weighed, weight_of, count_call_of};
 
@@ -25,7 +25,6 @@ fn judge_number(director: &Director, row: &[u32], no: ServerNo) -> Result<(), Re
 
 // The state with one weight set.
 fn with_server_weight(director: Director, no: ServerNo, weight: u16) -> Director
-    requires { director.service.servers ≤ 64 }
     ensures { result ≡ weighed director no.0 weight }
 {
     let mut after = director;

@@ -1,5 +1,5 @@
 // Setup: a new service over the row, whatever the state before.
-ghost use Rattle.std.specs.Prelude.{◌≡◌, [], ◌≤◌};
+ghost use Rattle.std.specs.Prelude.{◌≡◌, []};
 ghost use Rattle.director.specs.State.{result_of};
 ghost use Rattle.director.specs.Setup.{new_director, setup_of};
 
@@ -13,7 +13,6 @@ use table::clear::clear_row;
 
 // The state that an accepted setup makes.
 fn new_director(service: Service, given: &[Server; 64]) -> Director
-    requires { service.servers ≤ 64 }
     ensures { result ≡ new_director service given.now }
 {
     let n = service.servers;
