@@ -1,4 +1,4 @@
-// Picks a server for a new connection, by one of the four published schedulers. A scheduler is an `Algorithm`: where its walk
+// Picks a server for a new connection, by one of the four published schedulers (SCOPE 1.4). A scheduler is an `Algorithm`: where its walk
 // starts, the walk's range, what a weight change makes of it, and the pick.
 #![tactic(auto)]
 

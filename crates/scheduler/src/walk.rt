@@ -4,7 +4,8 @@ ghost use Rattle.scheduler.specs.Walk.{rests_at, held_walk};
 
 use servers::ServerNo;
 
-// The walk: its place (i, or the last pick; `None` before the first server, -1), and the level of weighted round-robin (cw).
+// The walk: its place (i, or the last pick; `None` before the first server, -1), and the level of weighted round-robin (cw in SCOPE
+// 10.5).
 #[derive(Clone, Copy, PartialEq, Eq)]
 pub struct Walk {
     pub place: Option<ServerNo>,
