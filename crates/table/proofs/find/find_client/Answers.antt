@@ -33,7 +33,8 @@ returns-then-is_of-3 c = hit (passed_pairs c.loop-i.invariant.1 (omega (arith, c
 
 pub returns : goal.returns
 returns c =
-    let all = passed_pairs {pairs = length c.args.row.now / words_per_slot / 2} c.loop-i.invariant.1 (omega (arith, c.loop-i.invariant.0, c.loop-i-test.false)) in
+    let all = passed_pairs {pairs = length c.args.row.now / words_per_slot / 2} c.loop-i.invariant.1
+    (omega (arith, c.loop-i.invariant.0, c.loop-i-test.false)) in
     elim c.else-last-end.branch [
       | else-last-end-via-then-last-end+else-is_of-3 w ↦ none (miss all (omega arith) (cc)) (omega arith)
       | else-last-end-via-else-last-end w ↦ none all (omega arith)

@@ -8,4 +8,7 @@ pub bounds-slots_of-k : goal.bounds-slots_of-k
 bounds-slots_of-k c = omega (arith, length-chunks c.args.row.now _ c.slots_of.ensures)
 
 pub returns : goal.returns
-returns c = c.from.ensures ∙ (chunk_slot c.args.row.now c.slots_of.result.now c.args.k.0 c.slots_of.ensures (omega (arith, length-chunks c.args.row.now _ c.slots_of.ensures))).1
+returns c =
+    let same = c.slots_of.ensures in
+    let row = c.args.row.now in
+    c.from.ensures ∙ (chunk_slot row _ c.args.k.0 same (omega (arith, length-chunks row _ same))).1

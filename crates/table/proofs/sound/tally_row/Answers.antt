@@ -1,6 +1,6 @@
 -- `sound::tally_row` meets its contract. The invariant: the slots before this one are sound, and counted (`Tallying`).
 use Prim.Native.Nat.{◌/◌, ◌<◌}
-use mathlib.Core.Path.{◌≡◌, sym, ◌∙◌}
+use mathlib.Core.Path.{◌≡◌, refl, sym, ◌∙◌}
 use native.Mathlib.Omega.{arith}
 use lib.ListN.{length}
 use Rattle.table.specs.Slots.{words_per_slot, slot_at}
@@ -24,8 +24,9 @@ pub count_one-requires : goal.count_one-requires
 count_one-requires c =
     let a = c.args in
     let used = sym c.is_unused.ensures ∙ c.if-not-is_unused.true in
-    let sound : slot_sound a.protocol a.n a.clock c.from-slot.result ≡ true = rw c.from-slot.ensures (sym c.is_sound_slot.ensures ∙ c.if-not-is_sound_slot.false) in
-    let below = server_place a.protocol a.n a.clock c.from-slot.result used (omega arith) sound in
+    let sound : slot_sound a.protocol a.n a.clock c.from-slot.result ≡ true
+    = rw c.from-slot.ensures (sym c.is_sound_slot.ensures ∙ c.if-not-is_sound_slot.false) in
+    let below = server_place a.protocol a.n a.clock c.from-slot.result used c.from-slot.result.server refl (omega arith) sound in
     (below, omega (arith, length-chunks a.row.now _ c.slots_of-words-items.ensures, c.loop-words.invariant.most _ below))
 
 pub loop-words-preserved : goal.loop-words-preserved
@@ -34,12 +35,13 @@ loop-words-preserved c =
     let (within, same) = chunk_slot a.row.now _ c.loop-words.words-index c.slots_of-words-items.ensures (omega arith) in
     let here : (c.loop-words.words-index < length a.row.now / words_per_slot) × (c.from-slot.result ≡ slot_at a.row.now c.loop-words.words-index)
     = (within, c.from-slot.ensures ∙ same) in
-    let sound : slot_sound a.protocol a.n a.clock c.from-slot.result ≡ true = rw c.from-slot.ensures (sym c.is_sound_slot.ensures ∙ c.if-not-is_sound_slot.false) in
+    let sound : slot_sound a.protocol a.n a.clock c.from-slot.result ≡ true
+    = rw c.from-slot.ensures (sym c.is_sound_slot.ensures ∙ c.if-not-is_sound_slot.false) in
     let judged = sym c.is_unused.ensures in
     elim c.if-not-is_unused.branch [
       | then-not-is_unused w ↦
           let used = judged ∙ w.if-not-is_unused.true in
-          let place = server_place a.protocol a.n a.clock c.from-slot.result used (omega arith) sound in
+          let place = server_place a.protocol a.n a.clock c.from-slot.result used c.from-slot.result.server refl (omega arith) sound in
           rw (w.counts-is ∙ w.count_one.ensures) (count c.loop-words.invariant here sound used place)
       | else-not-is_unused w ↦ rw w.counts-is (pass c.loop-words.invariant here sound (judged ∙ w.if-not-is_unused.false))
     ]
