@@ -123,7 +123,7 @@ pub fn with_one_less(director: &mut Director, no: ServerNo)
 }
 
 // One connection more on server `no`, and another walk.
-pub fn with_one_more(director: &mut Director, no: ServerNo, walk: Walk)
+pub(crate) fn with_one_more(director: &mut Director, no: ServerNo, walk: Walk)
     requires { count_at director.old.servers no.0 < 4294967295 }
     ensures { director.new ≡ with_one_more director.old no.0 walk }
 {
