@@ -58,6 +58,7 @@ fn pass(
     Answer::Passed(no, change)
 }
 
+// (State, row, packet and segment go one by one from here on: see `settle` for why not in one struct.)
 // The packet's connection, in slot `k`, is kept.
 fn keep(
     director: &Director,

@@ -17,7 +17,7 @@ use table::find::{find_client, find_free, find_free_with};
 use table::slot::{SlotNo, slot_at};
 
 // What is to become of a packet: its refusal, or its connection's slot and, where one opens, the server and the walk after the pick; where
-// one opens as another ends, that one's slot first.
+// one opens as another ends, that one's slot first. (Not a `Result`: the definition `decided` and its laws, as `FullFirst`, go by these five cases.)
 #[derive(Clone, Copy)]
 pub enum Decision {
     Refuse(Refusal),
@@ -34,7 +34,7 @@ fn is_syn(flags: Flags) -> bool
     flags.syn && !flags.ack && !flags.rst && !flags.fin
 }
 
-// Whether a packet opens a connection where its client has none.
+// Whether a packet opens a connection where its client has none. (6 is TCP; a number, as the service has it: see `Service`.)
 fn opens_connection(protocol: u8, segment: Segment) -> bool
     ensures { result ≡ opens protocol segment }
 {

@@ -81,7 +81,7 @@ pub fn take_packet(
     }
 }
 
-// Takes a packet from a client.
+// Takes a packet from a client. (This and the next are the calls' names in the rules and the documents, each `take_packet` with a way.)
 pub fn inbound(director: Director, row: &mut [u32], packet: &mut [u8], clock: u32) -> Outcome
     ensures { result_of result row.new packet.new ≡ packet_of Way.Inbound director row.old packet.old clock }
 {

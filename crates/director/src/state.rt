@@ -9,7 +9,8 @@ use scheduler::walk::Walk;
 use scheduler::weights::Weights;
 use servers::{Server, ServerNo, lower, raise};
 
-// What the director serves: given by setup, and changed by nothing else.
+// What the director serves: given by setup, and changed by nothing else. (Protocol and scheduler are numbers, as C hands them in: any number has
+// a defined answer, and the laws speak of every number.)
 #[repr(C)]
 #[derive(Clone, Copy)]
 pub struct Service {
@@ -88,7 +89,8 @@ pub enum Change {
     Ended = 3,
 }
 
-// What a call answers: a setup or weight call `Done`, a count or tick call a number, a packet call the server and the change.
+// What a call answers: a setup or weight call `Done`, a count or tick call a number, a packet call the server and the change. (Not a `Result`: the
+// theorems of `audit` go by these four cases, as `Demand1`.)
 #[derive(Clone, Copy)]
 pub enum Answer {
     Done,

@@ -1,6 +1,7 @@
 // The director's six calls and the burst for C and Rust: the state by value as plain numbers (include/nidhaaguf.h), row and packets lent.
 // `nidhaaguf_c` exports them.
-// Each call decodes the state, calls the director and replies in numbers (SCOPE section 4). No call requires anything of its arguments.
+// Each call decodes the state, calls the director and replies in numbers (SCOPE section 4). No call requires anything of its arguments. (Packets
+// have a function for each way, since C has a name for each.)
 #![tactic(auto)]
 
 pub mod reply;

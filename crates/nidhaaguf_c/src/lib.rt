@@ -1,5 +1,5 @@
 // The calls of `nidhaaguf` under their C names: what libnidhaaguf.a exports (include/nidhaaguf.h). Each has the contract of the call that it
-// makes.
+// makes. (All are said again, since a static library exports only functions of its own.)
 #![tactic(auto)]
 
 ghost use Rattle.std.specs.Prelude.{◌≡◌, []};

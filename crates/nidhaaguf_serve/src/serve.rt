@@ -17,7 +17,8 @@ use serving::told::{Told, is_accepted};
 use serving::trace::{packets_traced, write_trace};
 use serving::way::way_of;
 
-// Packet `k` of a current state: the call that it is given to, and the answer counted and told.
+// Packet `k` of a current state: the call that it is given to, and the answer counted and told. (State, row, records and counters go one by one:
+// in a struct of what is lent, tried, a proof doesn't know what they are in the end.)
 fn take_told(
     director: &mut Director,
     row: &mut [u32],

@@ -16,7 +16,7 @@ const PLACE: usize = 2048;
 
 const RECORD: usize = 4;
 
-// One packet of a current state, by the call that it is given to.
+// One packet of a current state, by the call that it is given to. (`Current` is asked of state and row, as soundness is: see `settle`.)
 fn take_one(director: &mut Director, row: &mut [u32], packet: &mut [u8]) -> Answer
     requires { Current director.old row.old }
     ensures current { Current director.new row.new }
@@ -64,6 +64,7 @@ fn burst_current(director: &mut Director, row: &mut [u32], packets: &mut [u8], r
     requires { Current director.old row.old }
     ensures { bursting director.new row.new packets.new records.new ≡ burst_of (bursting director.old row.old packets.old records.old) (packets_in packets.old records.old) }
 {
+    // by number: of what is written through `chunks_mut` a proof knows the length alone
     let m = packets_in(packets, records);
     for k in 0..m {
         burst_one(director, row, packets, records, k);

@@ -5,7 +5,7 @@ ghost use Rattle.serving.specs.Told.{told_by, told_behind};
 
 use director::state::Answer;
 
-// What an answer tells.
+// What an answer tells. (Numbers: they are the words of a record, and of C's structs.)
 #[derive(Clone, Copy)]
 pub struct Told {
     // 0 for accepted, else the refusal's number
