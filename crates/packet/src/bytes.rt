@@ -1,4 +1,5 @@
-// Numbers in a packet's bytes, the highest byte first: lengths, words and addresses.
+// Numbers in a packet's bytes, the highest byte first: lengths, words and addresses. (Each function here asks that its bytes are there, as
+// an index does: a fact about a place and a slice, which no type of either has.)
 ghost use Rattle.std.specs.Prelude.{◌≡◌, ◌+◌, ◌<◌, length};
 ghost use Rattle.checksum.specs.Ones.{word_at};
 ghost use Rattle.packet.specs.Bytes.{address_at, set_word, set_address, header_length};
