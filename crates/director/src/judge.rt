@@ -9,7 +9,7 @@ use servers::Server;
 use servers::rules::{Rule, all_keep};
 use table::slot::is_row;
 
-// Whether a protocol is TCP or UDP.
+// Whether a number is TCP's or UDP's (refusal 2).
 fn is_protocol(protocol: u8) -> bool
     ensures { result ≡ is_protocol protocol }
 {

@@ -50,7 +50,7 @@ fn is_unsent(descriptor: i32, packet: &[u8], answer: Answer) -> bool {
 struct Exchange {
     // accepted and not sent
     unsent: bool,
-    // where it ends in what was lent for it, and its refusal's number
+    // where it ends in what was lent for it, and its refusal's number (a number, as `stop` of the C call is)
     end: usize,
     refusal: u32,
 }
