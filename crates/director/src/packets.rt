@@ -15,7 +15,9 @@ use crate::judge::is_sound;
 use crate::segment::{Segment, read_segment};
 use crate::state::{Answer, Director, Outcome, Refusal, Way, refuse};
 
-// A packet that got past 11: its refusal, 12 to 14, or what becomes of its connection.
+// A packet that got past 11: its refusal, 12 to 14, or what becomes of its connection. (Not inlined: `serve` calls it at one place alone, and in
+// the one large function that all would become there the search takes an instruction more a slot.)
+#[inline(never)]
 #[tactic(auto, unfolding(crate::specs::Packets::routed))]
 fn route(director: &mut Director, row: &mut [u32], packet: &mut [u8], segment: Segment) -> Answer
     requires { (sound_of director.old row.old ≡ true) × Redirectable director.old.service.protocol packet.old }

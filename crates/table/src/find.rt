@@ -17,8 +17,7 @@ impl Slot {
 }
 
 // The lowest used slot of a client. Two slots a turn, since that is faster: 4 instructions a slot, where one search over the slots, as in
-// `find_free`, takes 6. (Not inlined: in `serve`, where all becomes one function, a slot would take 5.)
-#[inline(never)]
+// `find_free`, takes 6.
 pub fn find_client(row: &[u32], address: u32, port: u16) -> Option<SlotNo>
     ensures { result ≡ first_from (of_client address port) 0 (slots row.now) }
 {
