@@ -111,3 +111,7 @@ module _ (b : List ℕ) (m : ℕ) (all : Bytes b) (whole : WholeGroups m) (withi
 pub ruleset whole_groups = (fours_groups, groups_below)
 
 pub ruleset front_and_rest = (front_below, front_sum, pairs_sum, words_odd, words_none)
+
+-- three equal calls in a row, each by what it promised
+pub three_times : (s once twice r : ℕ) → once ≡ carried s → twice ≡ carried once → r ≡ carried twice → r ≡ carried (carried (carried s))
+three_times s once twice r first second third = third ∙ ap carried (second ∙ ap carried first)

@@ -45,7 +45,7 @@ fn groups_sum(b: &[u8]) -> u64
 }
 
 // A plain sum as a word: its carry is added back, the carry of that, and once more.
-#[tactic(auto, using(crate::proofs::Grouping::folds_fit), unfolding(crate::specs::Ones::folded))]
+#[tactic(auto, using(crate::proofs::Grouping::folds_fit, crate::proofs::Grouping::three_times), unfolding(crate::specs::Ones::folded))]
 fn fold(sum: u64) -> u16
     requires { Foldable sum }
     ensures { result ≡ folded sum }

@@ -54,7 +54,8 @@ fn better(by: Load, servers: &[Server; 64], best: ServerNo, no: ServerNo) -> Ser
     if lighter(by, server, held) { no } else { best }
 }
 
-// The least loaded of the first n servers, of those whose weight is above 0; server 0 is not held against itself.
+// The least loaded of the first n servers, of those whose weight is above 0; server 0 is not held against itself. (A `for`: a fold over a range of
+// numbers would be no plainer, and one over the servers would have to carry each one's number.)
 pub fn least(by: Load, servers: &[Server; 64], n: u32) -> ServerNo
     ensures { result ≡ least_of by servers.now n }
 {

@@ -21,7 +21,7 @@ use walk::{Pick, Walk};
 use weighted_round_robin::WeightedRoundRobin;
 use weights::Weights;
 
-// A call of the scheduler of a number: the three types make it a macro. The last arm is scheduler 4, since refusals 2 and 15 let no other
+// Calls a method of the scheduler of a number. A macro, since the schedulers are three types. The last arm is scheduler 4, since refusals 2 and 15 let no other
 // number come here. (Numbers, and not an enum, since the laws of specs/ speak of every number, as `PickLaw`, and C hands a number in.)
 macro_rules! by_number {
     ($number:expr, $algorithm:ident => $call:expr) => {

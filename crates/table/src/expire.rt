@@ -25,7 +25,7 @@ pub fn idle_limit(protocol: u8, phase: u32) -> u32
 const SHORTEST: u32 = 120;
 
 // The idle limits in seconds, and the clock less the shortest of them (or 0): what the loop over the slots compares with. (With a test of
-// the protocol in it the compiler writes the loop twice; that is too long to be inlined, and costs copies of the state.)
+// the protocol in it the compiler writes the loop twice.)
 #[derive(Clone, Copy)]
 struct Limits {
     // phases 1 to 3
