@@ -15,7 +15,7 @@ fn add_carry(sum: u64) -> u64
     sum % 65536 + sum / 65536
 }
 
-// The one's complement sum of two words.
+// The one's complement sum of two words. (The proof shows that `as u16` loses nothing.)
 fn ones_add(a: u16, b: u16) -> u16
     ensures { result ≡ ones_add a b }
 {

@@ -40,7 +40,7 @@ pub fn set_word(b: &mut [u8], at: usize, w: u16)
     b[at + 1] = low;
 }
 
-// Writes an address.
+// Writes an address. (Halves by arithmetic, as the definition has them; the proof shows that an `as u16` loses nothing.)
 pub fn set_address(b: &mut [u8], at: usize, a: u32)
     requires { at + 3 < length b.old }
     ensures { b.new ≡ set_address b.old at a }

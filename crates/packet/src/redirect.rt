@@ -67,7 +67,8 @@ fn sum_written(protocol: u8, sum: u16, edited: u16) -> u16
     }
 }
 
-// A checksum for an address that changes from `old` to `new`.
+// A checksum for an address that changes from `old` to `new`. (Halves by arithmetic, as the definition has them; the proof shows that an `as u16`
+// loses nothing.)
 fn edit_address(sum: u16, old: u32, new: u32) -> u16
     ensures { result ≡ edited_address sum old new }
 {
@@ -99,7 +100,8 @@ fn edit_transport(t: &mut [u8], protocol: u8, at: usize, old: u32, new: u32, por
     set_word(t, place, sum_written(protocol, sum, edited));
 }
 
-// Sets one side's address and port of a packet that was taken, and edits both checksums.
+// Sets one side's address and port of a packet that was taken, and edits both checksums. (`Redirectable` is asked as a fact, here and above: a
+// type for it would have to hold again after each byte that is written.)
 #[tactic(auto, unfolding(crate::specs::Redirect::redirected))]
 pub fn redirect_packet(p: &mut [u8], protocol: u8, side: Side, address: u32, port: u16)
     requires { Redirectable protocol p.old }

@@ -5,7 +5,8 @@ ghost use Rattle.director.specs.Control.{weight_of, count_call_of};
 ghost use Rattle.director.specs.Packets.{packet_of};
 ghost use Rattle.director.specs.Setup.{setup_of};
 ghost use Rattle.director.specs.Tick.{tick_of};
-ghost use Rattle.sample.specs.Instance.{answered, Sent};
+ghost use Rattle.director.specs.State.{left_with};
+ghost use Rattle.sample.specs.Instance.{Sent};
 
 use crate::begin::{CLIENT, VIRTUAL, blank};
 use crate::frame::tcp;
@@ -36,20 +37,28 @@ impl<const WORDS: usize> Instance<WORDS> {
         }
     }
 
-    pub fn set_up(&mut self, service: Service, servers: [Server; 64]) -> Told
-        ensures { answered result.0 self.new.director self.new.row [] ≡ setup_of self.old.director service servers self.old.row }
+    // The state after a call is kept, and its answer told.
+    fn keep(&mut self, outcome: Outcome) -> Told
+        ensures director { self.new.director ≡ outcome.director }
+        ensures row { self.new.row ≡ self.old.row }
+        ensures answer { result.0 ≡ outcome.answer }
     {
-        let outcome = set_up(self.director, service, servers, &mut self.row);
         self.director = outcome.director;
         Told(outcome.answer)
     }
 
+    pub fn set_up(&mut self, service: Service, servers: [Server; 64]) -> Told
+        ensures { left_with result.0 self.new.director self.new.row [] ≡ setup_of self.old.director service servers self.old.row }
+    {
+        let outcome = set_up(self.director, service, servers, &mut self.row);
+        self.keep(outcome)
+    }
+
     pub fn set_weight(&mut self, no: ServerNo, weight: u16) -> Told
-        ensures { answered result.0 self.new.director self.new.row [] ≡ weight_of self.old.director self.old.row no.0 weight }
+        ensures { left_with result.0 self.new.director self.new.row [] ≡ weight_of self.old.director self.old.row no.0 weight }
     {
         let outcome = set_weight(self.director, &self.row, no, weight);
-        self.director = outcome.director;
-        Told(outcome.answer)
+        self.keep(outcome)
     }
 
     pub fn count(&self, no: ServerNo) -> Told
@@ -59,27 +68,24 @@ impl<const WORDS: usize> Instance<WORDS> {
     }
 
     pub fn tick(&mut self, clock: u32) -> Told
-        ensures { answered result.0 self.new.director self.new.row [] ≡ tick_of self.old.director self.old.row clock }
+        ensures { left_with result.0 self.new.director self.new.row [] ≡ tick_of self.old.director self.old.row clock }
     {
         let outcome = tick(self.director, &mut self.row, clock);
-        self.director = outcome.director;
-        Told(outcome.answer)
+        self.keep(outcome)
     }
 
     pub fn inbound(&mut self, packet: &mut [u8], clock: u32) -> Told
-        ensures { answered result.0 self.new.director self.new.row packet.new ≡ packet_of Way.Inbound self.old.director self.old.row packet.old clock }
+        ensures { left_with result.0 self.new.director self.new.row packet.new ≡ packet_of Way.Inbound self.old.director self.old.row packet.old clock }
     {
         let outcome = inbound(self.director, &mut self.row, packet, clock);
-        self.director = outcome.director;
-        Told(outcome.answer)
+        self.keep(outcome)
     }
 
     pub fn outbound(&mut self, packet: &mut [u8], clock: u32) -> Told
-        ensures { answered result.0 self.new.director self.new.row packet.new ≡ packet_of Way.Outbound self.old.director self.old.row packet.old clock }
+        ensures { left_with result.0 self.new.director self.new.row packet.new ≡ packet_of Way.Outbound self.old.director self.old.row packet.old clock }
     {
         let outcome = outbound(self.director, &mut self.row, packet, clock);
-        self.director = outcome.director;
-        Told(outcome.answer)
+        self.keep(outcome)
     }
 
     // A segment of a client's port to the service.

@@ -63,7 +63,8 @@ impl Slot {
     }
 }
 
-// Every idle connection is removed from the row, and from its server's count. The answer is how many were removed.
+// Every idle connection is removed from the row, and from its server's count. The answer is how many were removed. (For why n ≤ 64 is asked
+// see `number_of` in `servers`.)
 pub fn expire(row: &mut [u32], servers: &mut [Server; 64], protocol: u8, n: u32, clock: u32) -> u32
     requires { (n ≤ 64) × (table_sound protocol n clock row.old servers.old ≡ true) }
     ensures row { row.new ≡ words (idle_removed protocol clock (slots row.old)) }
