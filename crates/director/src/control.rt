@@ -24,15 +24,14 @@ fn judge_number(director: &Director, row: &[u32], no: ServerNo) -> Result<(), Re
 }
 
 // The state with one weight set.
-fn with_server_weight(director: Director, no: ServerNo, weight: u16) -> Director
+fn with_server_weight(mut director: Director, no: ServerNo, weight: u16) -> Director
     ensures { result ≡ weighed director no.0 weight }
 {
-    let mut after = director;
-    let old = weight_at(&after.servers, no);
-    servers::set_weight(&mut after.servers, no, weight);
-    after.weights = weights_of(&after.servers, after.service.servers);
-    after.walk = after_weight(after.service.scheduler, after.walk, old, weight);
-    after
+    let old = weight_at(&director.servers, no);
+    servers::set_weight(&mut director.servers, no, weight);
+    director.weights = weights_of(&director.servers, director.service.servers);
+    director.walk = after_weight(director.service.scheduler, director.walk, old, weight);
+    director
 }
 
 // Sets a server's weight.
