@@ -38,10 +38,8 @@ fn packet_sound(
 {
     match read_segment(way, director, packet) {
         Err(why) => Answer::Refused(why),
+        Ok(_) if clock < director.clock => Answer::Refused(Refusal::EarlierClock),
         Ok(segment) => {
-            if clock < director.clock {
-                return Answer::Refused(Refusal::EarlierClock);
-            }
             settle(director, row, clock);
             route(director, row, packet, segment)
         }
