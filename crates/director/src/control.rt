@@ -39,12 +39,12 @@ fn with_server_weight(mut director: Director, no: ServerNo, weight: u16) -> Dire
 pub fn set_weight(director: Director, row: &[u32], no: ServerNo, weight: u16) -> Outcome
     ensures { result_of result row.now [] ≡ weight_of director row.now no.0 weight }
 {
-    match judge_number(&director, row, no) {
-        Err(why) => refuse(director, why),
-        Ok(()) => Outcome {
-            answer: Answer::Done,
-            director: with_server_weight(director, no, weight),
-        },
+    if let Err(why) = judge_number(&director, row, no) {
+        return refuse(director, why);
+    }
+    Outcome {
+        answer: Answer::Done,
+        director: with_server_weight(director, no, weight),
     }
 }
 
@@ -53,11 +53,11 @@ pub fn set_weight(director: Director, row: &[u32], no: ServerNo, weight: u16) ->
 pub fn count(director: Director, row: &[u32], no: ServerNo) -> Outcome
     ensures { result_of result row.now [] ≡ count_call_of director row.now no.0 }
 {
-    match judge_number(&director, row, no) {
-        Err(why) => refuse(director, why),
-        Ok(()) => Outcome {
-            answer: Answer::Number(server_at(&director.servers, no).count),
-            director,
-        },
+    if let Err(why) = judge_number(&director, row, no) {
+        return refuse(director, why);
+    }
+    Outcome {
+        answer: Answer::Number(server_at(&director.servers, no).count),
+        director,
     }
 }
