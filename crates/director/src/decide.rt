@@ -7,7 +7,7 @@ ghost use Rattle.director.specs.Decide.{is_syn, opens, belongs, next_pick, on_we
 ghost use Rattle.director.specs.declared.decide.Decision.{Decision};
 
 use crate::segment::{Segment, Sender};
-use crate::state::{Director, Refusal, Service, with_one_less};
+use crate::state::{Director, Refusal, with_one_less};
 use packet::read::Flags;
 use scheduler::pick;
 use scheduler::walk::{Pick, Walk};
@@ -65,15 +65,10 @@ fn renews_connection(segment: Segment, phase: u32) -> bool
 fn next_pick(director: &Director) -> Pick
     ensures { result ≡ next_pick director.now }
 {
-    let Service {
-        scheduler,
-        servers: n,
-        ..
-    } = director.service;
     pick(
-        scheduler,
+        director.service.scheduler,
         &director.servers,
-        n,
+        director.service.servers,
         director.weights,
         director.walk,
     )
