@@ -91,12 +91,12 @@ fn decide_renewal(director: &Director, row: &[u32], k: SlotNo) -> Decision
     requires counted { 1 ≤ count_at director.now.servers (slot_at row.now k.0).server.0 }
     ensures { result ≡ on_renewal director.now (slots row.now) k }
 {
-    let mut ended = *director;
-    with_one_less(&mut ended, slot_at(row, k).server);
     let free = find_free_with(row, k);
-    if none_weighs(ended.weights) {
+    if none_weighs(director.weights) {
         return Decision::Refuse(Refusal::NoWeight);
     }
+    let mut ended = *director;
+    with_one_less(&mut ended, slot_at(row, k).server);
     let Pick { server, walk } = next_pick(&ended);
     Decision::Renew(k, free, server, walk)
 }
