@@ -7,7 +7,7 @@ ghost use Rattle.director.specs.Decide.{is_syn, opens, belongs, next_pick, on_we
 ghost use Rattle.director.specs.declared.decide.Decision.{Decision};
 
 use crate::segment::{Segment, Sender};
-use crate::state::{Director, Refusal, with_one_less};
+use crate::state::{Director, Refusal, TCP, with_one_less};
 use packet::read::Flags;
 use scheduler::pick;
 use scheduler::walk::{Pick, Walk};
@@ -34,13 +34,13 @@ fn is_syn(flags: Flags) -> bool
     flags.syn && !flags.ack && !flags.rst && !flags.fin
 }
 
-// Whether a packet opens a connection where its client has none. (6 is TCP; a number, as the service has it: see `Service`.)
+// Whether a packet opens a connection where its client has none. (A number, as the service has it: see `Service`.)
 fn opens_connection(protocol: u8, segment: Segment) -> bool
     ensures { result ≡ opens protocol segment }
 {
     match segment.sender {
         Sender::Server(_) => false,
-        Sender::Client => protocol != 6 || is_syn(segment.flags),
+        Sender::Client => protocol != TCP || is_syn(segment.flags),
     }
 }
 
@@ -58,7 +58,7 @@ fn belongs_to(sender: Sender, no: ServerNo) -> bool
 fn renews_connection(segment: Segment, phase: u32) -> bool
     ensures { result ≡ renews segment phase }
 {
-    phase == 4 && opens_connection(6, segment)
+    phase == 4 && opens_connection(TCP, segment)
 }
 
 // The server that is next, by the scheduler.

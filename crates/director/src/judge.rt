@@ -2,7 +2,7 @@
 ghost use Rattle.std.specs.Prelude.{◌≡◌, ◌≤◌};
 ghost use Rattle.director.specs.Judge.{is_protocol, service_right, sizes_right, settings_judged, parts_sound, sound_of};
 
-use crate::state::{Director, Refusal, Service};
+use crate::state::{Director, Refusal, Service, TCP, UDP};
 use scheduler::weights::weights_agree;
 use scheduler::{in_range, is_scheduler};
 use servers::Server;
@@ -13,7 +13,7 @@ use table::slot::is_row;
 fn is_protocol(protocol: u8) -> bool
     ensures { result ≡ is_protocol protocol }
 {
-    matches!(protocol, 6 | 17)
+    matches!(protocol, TCP | UDP)
 }
 
 // Whether refusal 2 is not given.

@@ -9,6 +9,11 @@ use scheduler::walk::Walk;
 use scheduler::weights::Weights;
 use servers::{Server, ServerNo, lower, raise};
 
+// The protocols' numbers.
+pub const TCP: u8 = 6;
+
+pub const UDP: u8 = 17;
+
 // What the director serves: given by setup, and changed by nothing else. (Protocol and scheduler are numbers, as C hands them in: any number has
 // a defined answer, and the laws speak of every number.)
 #[repr(C)]
@@ -17,7 +22,7 @@ pub struct Service {
     // the virtual address and port
     pub address: u32,
     pub port: u16,
-    // 6 is TCP, 17 is UDP
+    // `TCP` or `UDP`
     pub protocol: u8,
     // 1 to 4
     pub scheduler: u8,
