@@ -43,10 +43,7 @@ fn place_of(number: u64) -> Option<ServerNo>
 fn place_number(place: Option<ServerNo>) -> u64
     ensures { result ≡ place_number place }
 {
-    match place {
-        None => 0,
-        Some(no) => u64::from(no.0) + 1,
-    }
+    place.map_or(0, |no| u64::from(no.0) + 1)
 }
 
 // The director's state of a state in plain numbers.
