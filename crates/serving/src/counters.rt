@@ -4,12 +4,15 @@ ghost use Rattle.serving.specs.Counters.{first_of, change_index, answer_index, c
 
 use director::state::{Answer, Change, Way};
 
-// The first counter of a way: each has 23.
+// How many counters each way has.
+const EACH: usize = 23;
+
+// The first counter of a way.
 fn first_of(way: Way) -> usize
     ensures value { result ≡ first_of way }
     ensures bound { result ≤ 23 }
 {
-    23 * way as usize
+    EACH * way as usize
 }
 
 // The counter of a change, among those of a way: they stand in the order of their numbers.
