@@ -1,5 +1,6 @@
 -- A sound state by its parts: what `sound_of` says, read off and put together again. Assumes nothing.
 use Rattle.std.specs.Prelude.{Ok, Err}
+use Rattle.std.specs.Result.{is_ok}
 use Prim.Native.Nat.{ℕ, ◌≤◌}
 use mathlib.Core.Bool.{Bool, true, false, cond, ◌&&◌, false≢true}
 use mathlib.Core.List.{List}
@@ -64,6 +65,11 @@ accepted g servers row e =
 
 pub judged : (g : Service) (servers : List Server) (row : List ℕ) → settings_judged g servers row ≡ Ok tt → Accepted g servers row
 judged g servers row e = accepted g servers row (ap is_accepted e)
+
+-- what `is_ok` says of a judgement
+pub ok_accepted : (v : Judged) → is_ok v ≡ true → is_accepted v ≡ true
+ok_accepted (Ok done) e = refl
+ok_accepted (Err why) e = e
 
 -- a number that is accepted is one of a sound state
 pub numbered : (d : Director) (row : List ℕ) (k : ℕ) → number_judged d row k ≡ Ok tt → sound_of d row ≡ true

@@ -1,7 +1,8 @@
 // What was decided of a packet, carried out on state, row and packet.
-ghost use Rattle.std.specs.Prelude.{◌≡◌};
+ghost use Rattle.std.specs.Prelude.{◌≡◌, ◌<◌, ◌≤◌, ◌/◌, length};
+ghost use Rattle.servers.specs.Servers.{count_at};
 ghost use Rattle.packet.specs.Redirect.{Redirectable};
-ghost use Rattle.table.specs.Slots.{slots, words, slot_at};
+ghost use Rattle.table.specs.Slots.{words_per_slot, slots, words, slot_at, IsRow};
 ghost use Rattle.table.specs.Changes.{freed};
 ghost use Rattle.director.specs.State.{with_one_less, lent, left_with, in_words};
 ghost use Rattle.director.specs.declared.state.Answer.{Answer};
@@ -76,6 +77,20 @@ fn keep(
     pass(director, packet, segment, slot.server, Change::Kept)
 }
 
+// The connection in slot `k` is ended; tells the server that it was with.
+fn close(director: &mut Director, row: &mut [u32], k: SlotNo) -> ServerNo
+    requires place { IsRow row.old × (k.0 < length row.old / words_per_slot) }
+    requires counted { 1 ≤ count_at director.old.servers (slot_at row.old k.0).server.0 }
+    ensures server { result ≡ (slot_at row.old k.0).server }
+    ensures row { row.new ≡ words (freed (slots row.old) k.0) }
+    ensures director { director.new ≡ with_one_less director.old (slot_at row.old k.0).server.0 }
+{
+    let no = slot_at(row, k).server;
+    free_slot(row, k);
+    with_one_less(director, no);
+    no
+}
+
 // The packet's connection, in slot `k`, is ended.
 fn end(
     director: &mut Director,
@@ -87,9 +102,7 @@ fn end(
     requires { EndReady director.old row.old packet.old k.0 }
     ensures { left_with result director.new row.new packet.new ≡ in_words (ended_held director.old (lent (slots row.old) packet.old) segment k.0) }
 {
-    let no = slot_at(row, k).server;
-    free_slot(row, k);
-    with_one_less(director, no);
+    let no = close(director, row, k);
     pass(director, packet, segment, no, Change::Ended)
 }
 
@@ -126,9 +139,7 @@ fn renew(
     requires open_ready { OpenReady (with_one_less director.old (slot_at row.old old.0).server.0) (words (freed (slots row.old) old.0)) packet.old k.0 no.0 }
     ensures { left_with result director.new row.new packet.new ≡ in_words (renewed_held director.old (lent (slots row.old) packet.old) segment old.0 k.0 no walk) }
 {
-    let from = slot_at(row, old).server;
-    free_slot(row, old);
-    with_one_less(director, from);
+    close(director, row, old);
     open(director, row, packet, segment, k, no, walk)
 }
 

@@ -5,7 +5,7 @@ ghost use Rattle.table.specs.Slots.{slots, words};
 ghost use Rattle.director.specs.Judge.{sound_of};
 ghost use Rattle.director.specs.Tick.{settled, settled_slots, idle_now};
 
-use crate::state::{Director, Service};
+use crate::state::Director;
 use table::expire::expire;
 
 // Stores an accepted clock and removes the connections that are idle at it; tells how many they were. (That the state is sound is asked here and
@@ -16,11 +16,12 @@ pub fn settle(director: &mut Director, row: &mut [u32], clock: u32) -> u32
     ensures director { director.new ≡ settled director.old (slots row.old) clock }
     ensures removed { result ≡ count_of (idle_now director.old clock) (slots row.old) }
 {
-    let Service {
-        protocol,
-        servers: n,
-        ..
-    } = director.service;
     director.clock = clock;
-    expire(row, &mut director.servers, protocol, n, clock)
+    expire(
+        row,
+        &mut director.servers,
+        director.service.protocol,
+        director.service.servers,
+        clock,
+    )
 }

@@ -24,15 +24,14 @@ fn judge_number(director: &Director, row: &[u32], no: ServerNo) -> Result<(), Re
 }
 
 // The state with one weight set.
-fn with_server_weight(director: Director, no: ServerNo, weight: u16) -> Director
+fn with_server_weight(mut director: Director, no: ServerNo, weight: u16) -> Director
     ensures { result ≡ weighed director no.0 weight }
 {
-    let mut after = director;
-    let old = weight_at(&after.servers, no);
-    servers::set_weight(&mut after.servers, no, weight);
-    after.weights = weights_of(&after.servers, after.service.servers);
-    after.walk = after_weight(after.service.scheduler, after.walk, old, weight);
-    after
+    let old = weight_at(&director.servers, no);
+    servers::set_weight(&mut director.servers, no, weight);
+    director.weights = weights_of(&director.servers, director.service.servers);
+    director.walk = after_weight(director.service.scheduler, director.walk, old, weight);
+    director
 }
 
 // Sets a server's weight.
@@ -40,12 +39,12 @@ fn with_server_weight(director: Director, no: ServerNo, weight: u16) -> Director
 pub fn set_weight(director: Director, row: &[u32], no: ServerNo, weight: u16) -> Outcome
     ensures { result_of result row.now [] ≡ weight_of director row.now no.0 weight }
 {
-    match judge_number(&director, row, no) {
-        Err(why) => refuse(director, why),
-        Ok(()) => Outcome {
-            answer: Answer::Done,
-            director: with_server_weight(director, no, weight),
-        },
+    if let Err(why) = judge_number(&director, row, no) {
+        return refuse(director, why);
+    }
+    Outcome {
+        answer: Answer::Done,
+        director: with_server_weight(director, no, weight),
     }
 }
 
@@ -54,11 +53,11 @@ pub fn set_weight(director: Director, row: &[u32], no: ServerNo, weight: u16) ->
 pub fn count(director: Director, row: &[u32], no: ServerNo) -> Outcome
     ensures { result_of result row.now [] ≡ count_call_of director row.now no.0 }
 {
-    match judge_number(&director, row, no) {
-        Err(why) => refuse(director, why),
-        Ok(()) => Outcome {
-            answer: Answer::Number(server_at(&director.servers, no).count),
-            director,
-        },
+    if let Err(why) = judge_number(&director, row, no) {
+        return refuse(director, why);
+    }
+    Outcome {
+        answer: Answer::Number(server_at(&director.servers, no).count),
+        director,
     }
 }

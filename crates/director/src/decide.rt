@@ -7,7 +7,7 @@ ghost use Rattle.director.specs.Decide.{is_syn, opens, belongs, next_pick, on_we
 ghost use Rattle.director.specs.declared.decide.Decision.{Decision};
 
 use crate::segment::{Segment, Sender};
-use crate::state::{Director, Refusal, Service, with_one_less};
+use crate::state::{Director, Refusal, TCP, with_one_less};
 use packet::read::Flags;
 use scheduler::pick;
 use scheduler::walk::{Pick, Walk};
@@ -34,13 +34,13 @@ fn is_syn(flags: Flags) -> bool
     flags.syn && !flags.ack && !flags.rst && !flags.fin
 }
 
-// Whether a packet opens a connection where its client has none. (6 is TCP; a number, as the service has it: see `Service`.)
+// Whether a packet opens a connection where its client has none. (A number, as the service has it: see `Service`.)
 fn opens_connection(protocol: u8, segment: Segment) -> bool
     ensures { result ≡ opens protocol segment }
 {
     match segment.sender {
         Sender::Server(_) => false,
-        Sender::Client => protocol != 6 || is_syn(segment.flags),
+        Sender::Client => protocol != TCP || is_syn(segment.flags),
     }
 }
 
@@ -58,22 +58,17 @@ fn belongs_to(sender: Sender, no: ServerNo) -> bool
 fn renews_connection(segment: Segment, phase: u32) -> bool
     ensures { result ≡ renews segment phase }
 {
-    phase == 4 && opens_connection(6, segment)
+    phase == 4 && opens_connection(TCP, segment)
 }
 
 // The server that is next, by the scheduler.
 fn next_pick(director: &Director) -> Pick
     ensures { result ≡ next_pick director.now }
 {
-    let Service {
-        scheduler,
-        servers: n,
-        ..
-    } = director.service;
     pick(
-        scheduler,
+        director.service.scheduler,
         &director.servers,
-        n,
+        director.service.servers,
         director.weights,
         director.walk,
     )
@@ -96,12 +91,12 @@ fn decide_renewal(director: &Director, row: &[u32], k: SlotNo) -> Decision
     requires counted { 1 ≤ count_at director.now.servers (slot_at row.now k.0).server.0 }
     ensures { result ≡ on_renewal director.now (slots row.now) k }
 {
-    let mut ended = *director;
-    with_one_less(&mut ended, slot_at(row, k).server);
     let free = find_free_with(row, k);
-    if none_weighs(ended.weights) {
+    if none_weighs(director.weights) {
         return Decision::Refuse(Refusal::NoWeight);
     }
+    let mut ended = *director;
+    with_one_less(&mut ended, slot_at(row, k).server);
     let Pick { server, walk } = next_pick(&ended);
     Decision::Renew(k, free, server, walk)
 }

@@ -2,7 +2,7 @@
 ghost use Rattle.std.specs.Prelude.{◌≡◌, ◌≤◌};
 ghost use Rattle.director.specs.Judge.{is_protocol, service_right, sizes_right, settings_judged, parts_sound, sound_of};
 
-use crate::state::{Director, Refusal, Service};
+use crate::state::{Director, Refusal, Service, TCP, UDP};
 use scheduler::weights::weights_agree;
 use scheduler::{in_range, is_scheduler};
 use servers::Server;
@@ -13,7 +13,7 @@ use table::slot::is_row;
 fn is_protocol(protocol: u8) -> bool
     ensures { result ≡ is_protocol protocol }
 {
-    matches!(protocol, 6 | 17)
+    matches!(protocol, TCP | UDP)
 }
 
 // Whether refusal 2 is not given.
@@ -66,17 +66,10 @@ fn are_parts_sound(director: &Director, row: &[u32]) -> bool
         servers: n,
         ..
     } = director.service;
-    if !all_keep(Rule::UnusedFrom(n), &director.servers, 64) {
-        return false;
-    }
-    let held = director.weights;
-    if !weights_agree(held, &director.servers, n) {
-        return false;
-    }
-    if !in_range(scheduler, held.largest, n, director.walk) {
-        return false;
-    }
-    table::sound::is_sound(row, &director.servers, protocol, n, director.clock)
+    all_keep(Rule::UnusedFrom(n), &director.servers, 64)
+        && weights_agree(director.weights, &director.servers, n)
+        && in_range(scheduler, director.weights.largest, n, director.walk)
+        && table::sound::is_sound(row, &director.servers, protocol, n, director.clock)
 }
 
 // Whether the state handed in is sound: 15 exactly where it is not.
@@ -84,8 +77,6 @@ fn are_parts_sound(director: &Director, row: &[u32]) -> bool
 pub fn is_sound(director: &Director, row: &[u32]) -> bool
     ensures { result ≡ sound_of director.now row.now }
 {
-    match judge_settings(director.service, &director.servers, row) {
-        Err(_) => false,
-        Ok(()) => are_parts_sound(director, row),
-    }
+    judge_settings(director.service, &director.servers, row).is_ok()
+        && are_parts_sound(director, row)
 }

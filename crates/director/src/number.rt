@@ -26,12 +26,14 @@ impl From<Refusal> for u8 {
     }
 }
 
-// Whether a refusal keeps the clock and the idle removal; all others change nothing.
-pub fn keeps_clock(why: Refusal) -> bool
-    ensures { result ≡ keeps_clock why }
-{
-    matches!(
-        why,
-        Refusal::NoConnection | Refusal::TableFull | Refusal::NoWeight
-    )
+impl Refusal {
+    // Whether a refusal keeps the clock and the idle removal; all others change nothing.
+    pub fn keeps_clock(self) -> bool
+        ensures { result ≡ keeps_clock self }
+    {
+        matches!(
+            self,
+            Refusal::NoConnection | Refusal::TableFull | Refusal::NoWeight
+        )
+    }
 }

@@ -40,10 +40,8 @@ fn packet_sound(
 {
     match read_segment(way, director, packet) {
         Err(why) => Answer::Refused(why),
+        Ok(_) if clock < director.clock => Answer::Refused(Refusal::EarlierClock),
         Ok(segment) => {
-            if clock < director.clock {
-                return Answer::Refused(Refusal::EarlierClock);
-            }
             settle(director, row, clock);
             route(director, row, packet, segment)
         }
@@ -65,7 +63,7 @@ pub fn take_current(way: Way, director: &mut Director, row: &mut [u32], packet: 
 #[tactic(auto, unfolding(crate::specs::Packets::packet_of))]
 pub fn take_packet(
     way: Way,
-    director: Director,
+    mut director: Director,
     row: &mut [u32],
     packet: &mut [u8],
     clock: u32,
@@ -75,12 +73,8 @@ pub fn take_packet(
     if !is_sound(&director, row) {
         return refuse(director, Refusal::Unsound);
     }
-    let mut after = director;
-    let answer = packet_sound(way, &mut after, row, packet, clock);
-    Outcome {
-        answer,
-        director: after,
-    }
+    let answer = packet_sound(way, &mut director, row, packet, clock);
+    Outcome { answer, director }
 }
 
 // Takes a packet from a client. (This and the next are the calls' names in the rules and the documents, each `take_packet` with a way.)

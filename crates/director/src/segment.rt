@@ -44,9 +44,9 @@ fn from_server(director: &Director, p: Packet) -> Result<Segment, Refusal>
     ensures { result ≡ from_server director.now.service director.now.servers p }
 {
     let n = director.service.servers;
-    let no = number_of(&director.servers, n, p.source, p.transport.source).ok_or(
-        Refusal::OtherEndpoint,
-    )?;
+    let Some(no) = number_of(&director.servers, n, p.source, p.transport.source) else {
+        return Err(Refusal::OtherEndpoint);
+    };
     Ok(Segment {
         address: p.destination,
         port: p.transport.destination,

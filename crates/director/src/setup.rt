@@ -36,14 +36,12 @@ pub fn set_up(
 ) -> Outcome
     ensures { result_of result row.new [] ≡ setup_of director service servers row.old }
 {
-    match judge_settings(service, &servers, row) {
-        Err(why) => refuse(director, why),
-        Ok(()) => {
-            clear_row(row);
-            Outcome {
-                answer: Answer::Done,
-                director: new_director(service, &servers),
-            }
-        }
+    if let Err(why) = judge_settings(service, &servers, row) {
+        return refuse(director, why);
+    }
+    clear_row(row);
+    Outcome {
+        answer: Answer::Done,
+        director: new_director(service, &servers),
     }
 }

@@ -9,6 +9,11 @@ use scheduler::walk::Walk;
 use scheduler::weights::Weights;
 use servers::{Server, ServerNo, lower, raise};
 
+// The protocols' numbers.
+pub const TCP: u8 = 6;
+
+pub const UDP: u8 = 17;
+
 // What the director serves: given by setup, and changed by nothing else. (Protocol and scheduler are numbers, as C hands them in: any number has
 // a defined answer, and the laws speak of every number.)
 #[repr(C)]
@@ -17,7 +22,7 @@ pub struct Service {
     // the virtual address and port
     pub address: u32,
     pub port: u16,
-    // 6 is TCP, 17 is UDP
+    // `TCP` or `UDP`
     pub protocol: u8,
     // 1 to 4
     pub scheduler: u8,
@@ -107,7 +112,7 @@ pub struct Outcome {
 }
 
 // A refusal: the state as it is.
-pub fn refuse(director: Director, why: Refusal) -> Outcome
+pub(crate) fn refuse(director: Director, why: Refusal) -> Outcome
     ensures { result ≡ refused_by why director }
 {
     Outcome {
@@ -117,7 +122,7 @@ pub fn refuse(director: Director, why: Refusal) -> Outcome
 }
 
 // One connection less on server `no`, which has one.
-pub fn with_one_less(director: &mut Director, no: ServerNo)
+pub(crate) fn with_one_less(director: &mut Director, no: ServerNo)
     requires { 1 ≤ count_at director.old.servers no.0 }
     ensures { director.new ≡ with_one_less director.old no.0 }
 {

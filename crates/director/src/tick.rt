@@ -22,16 +22,12 @@ fn tick_sound(director: &mut Director, row: &mut [u32], clock: u32) -> Answer
 
 // Moves the clock on, and tells how many idle connections that removed.
 #[tactic(auto, unfolding(crate::specs::Tick::tick_of))]
-pub fn tick(director: Director, row: &mut [u32], clock: u32) -> Outcome
+pub fn tick(mut director: Director, row: &mut [u32], clock: u32) -> Outcome
     ensures { result_of result row.new [] ≡ tick_of director row.old clock }
 {
     if !is_sound(&director, row) {
         return refuse(director, Refusal::Unsound);
     }
-    let mut after = director;
-    let answer = tick_sound(&mut after, row, clock);
-    Outcome {
-        answer,
-        director: after,
-    }
+    let answer = tick_sound(&mut director, row, clock);
+    Outcome { answer, director }
 }

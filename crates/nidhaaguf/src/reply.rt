@@ -5,7 +5,6 @@ ghost use Rattle.nidhaaguf.specs.declared.state.State.{State};
 ghost use Rattle.nidhaaguf.specs.Reply.{state_after, reply_of, HandedIn};
 
 use crate::state::State;
-use director::number::keeps_clock;
 use director::state::{Answer, Director, Outcome};
 use serving::told::Told;
 
@@ -26,10 +25,7 @@ pub struct Reply {
 fn changes_nothing(answer: Answer) -> bool
     ensures { result ≡ changes_nothing answer }
 {
-    match answer {
-        Answer::Refused(why) => !keeps_clock(why),
-        _ => false,
-    }
+    matches!(answer, Answer::Refused(why) if !why.keeps_clock())
 }
 
 // The state after a call. Where the refusal changes nothing it is the one handed in, and only the place can be another than the

@@ -43,10 +43,7 @@ fn place_of(number: u64) -> Option<ServerNo>
 fn place_number(place: Option<ServerNo>) -> u64
     ensures { result ≡ place_number place }
 {
-    match place {
-        None => 0,
-        Some(no) => u64::from(no.0) + 1,
-    }
+    place.map_or(0, |no| u64::from(no.0) + 1)
 }
 
 // The director's state of a state in plain numbers.
@@ -54,13 +51,10 @@ impl From<State> for Director {
     ghost from_gives = { λ state director. director ≡ decoded state };
 
     fn from(state: State) -> Director {
-        let State {
-            service,
-            servers,
-            ..
-        } = state;
+        // (a variable: an array field straight in a literal gets no proof)
+        let servers = state.servers;
         Director {
-            service,
+            service: state.service,
             servers,
             weights: Weights {
                 largest: state.largest_weight,
@@ -80,15 +74,10 @@ impl From<Director> for State {
     ghost from_gives = { λ director state. state ≡ encoded director };
 
     fn from(director: Director) -> State {
-        let Director {
-            service,
-            servers,
-            clock,
-            ..
-        } = director;
+        let servers = director.servers;
         State {
-            service,
-            clock,
+            service: director.service,
+            clock: director.clock,
             servers,
             place: place_number(director.walk.place),
             level: director.walk.level,

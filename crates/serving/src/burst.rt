@@ -65,8 +65,7 @@ fn burst_current(director: &mut Director, row: &mut [u32], packets: &mut [u8], r
     ensures { bursting director.new row.new packets.new records.new ≡ burst_of (bursting director.old row.old packets.old records.old) (packets_in packets.old records.old) }
 {
     // by number: of what is written through `chunks_mut` a proof knows the length alone
-    let m = packets_in(packets, records);
-    for k in 0..m {
+    for k in 0..packets_in(packets, records) {
         burst_one(director, row, packets, records, k);
     }
 }

@@ -4,12 +4,18 @@ ghost use Rattle.serving.specs.Counters.{first_of, change_index, answer_index, c
 
 use director::state::{Answer, Change, Way};
 
-// The first counter of a way: each has 23.
+// How many counters each way has.
+const EACH: usize = 23;
+
+// Both ways' counters.
+pub const COUNTERS: usize = 2 * EACH;
+
+// The first counter of a way.
 fn first_of(way: Way) -> usize
     ensures value { result ≡ first_of way }
     ensures bound { result ≤ 23 }
 {
-    23 * way as usize
+    EACH * way as usize
 }
 
 // The counter of a change, among those of a way: they stand in the order of their numbers.
@@ -33,7 +39,7 @@ fn answer_index(answer: Answer) -> usize
 }
 
 // Counts the answer to a packet.
-pub fn count_answer(counters: &mut [u64; 46], way: Way, answer: Answer)
+pub fn count_answer(counters: &mut [u64; COUNTERS], way: Way, answer: Answer)
     ensures { counters.new ≡ counted counters.old way answer }
 {
     let at = first_of(way) + answer_index(answer);

@@ -5,13 +5,16 @@ ghost use Rattle.serving.specs.Trace.{traced, packets_traced};
 use crate::told::{Told, write_told};
 use director::state::Way;
 
+// The words of a packet's record.
+const RECORD: usize = 5;
+
 // Writes the record of packet `k`, of `n` bytes.
 pub fn write_trace(records: &mut [u32], k: usize, n: usize, way: Way, told: Told)
     requires { 5 * k + 4 < length records.old }
     ensures { records.new ≡ traced records.old k n way told }
 {
-    let at = 5 * k;
-    records[at] = (n % 4294967296) as u32;
+    let at = RECORD * k;
+    records[at] = (n % (1 << 32)) as u32;
     records[at + 1] = way as u32;
     write_told(records, at + 1, told);
 }
@@ -20,5 +23,5 @@ pub fn write_trace(records: &mut [u32], k: usize, n: usize, way: Way, told: Told
 pub fn packets_traced(records: &[u32], most: u32) -> u32
     ensures { result ≡ packets_traced records.now most }
 {
-    (records.len() / 5).min(most as usize) as u32
+    (records.len() / RECORD).min(most as usize) as u32
 }

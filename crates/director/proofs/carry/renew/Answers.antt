@@ -3,4 +3,4 @@ use Rattle.table.proofs.Rows.{slots-words}
 use Rattle.director.proofs.carry.renew.Goals as goal
 
 pub returns : goal.returns
-returns c = simp (c.open.ensures, c.with_one_less.ensures, c.free_slot.ensures, c.slot_at.ensures, slots-words)
+returns c = simp (c.open.ensures, c.close.ensures.director, c.close.ensures.row, slots-words)

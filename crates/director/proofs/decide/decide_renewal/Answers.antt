@@ -1,7 +1,7 @@
 -- `decide::decide_renewal` meets its contract: each return rewrites with the slot found and the test of the weights, the second with the pick.
 use Rattle.std.specs.Prelude.{Some}
 use mathlib.Core.List.{List}
-use mathlib.Core.Path.{◌≡◌, sym, ap, ◌∙◌}
+use mathlib.Core.Path.{◌≡◌, refl, sym, ap, ◌∙◌}
 use lib.ListN.{get_or}
 use Rattle.servers.specs.declared.ServerNo.{ServerNo}
 use Rattle.table.specs.declared.slot.Slot.{Slot}
@@ -27,12 +27,11 @@ with_one_less-requires c = rw c.slot_at.ensures c.requires.counted
 pub returns-then-none_weighs : goal.returns-then-none_weighs
 returns-then-none_weighs c =
     rw (sym c.none_weighs.ensures ∙ c.if-none_weighs.true) at
-    (by_weights c.args.director.now _ (slots c.args.row.now) c.args.k _ _
-    (ap (λ (s : Slot). s.server) c.slot_at.ensures) c.with_one_less.ensures c.find_free_with-free.ensures)
+    (by_weights c.args.director.now _ (slots c.args.row.now) c.args.k _ _ refl refl c.find_free_with-free.ensures)
 
 pub returns : goal.returns
 returns c =
     let ended = c.with_one_less.new.director in
-    on_pick ended (Decision.Renew c.args.k c.find_free_with-free.result) _ (sym c.none_weighs.ensures ∙ c.if-none_weighs.false) c.next_pick.ensures
+    on_pick ended (Decision.Renew c.args.k c.find_free_with-free.result) _ (rw c.with_one_less.ensures (sym c.none_weighs.ensures ∙ c.if-none_weighs.false)) c.next_pick.ensures
     ∙ by_weights c.args.director.now ended (slots c.args.row.now) c.args.k _ _
     (ap (λ (s : Slot). s.server) c.slot_at.ensures) c.with_one_less.ensures c.find_free_with-free.ensures

@@ -12,9 +12,9 @@ use Rattle.director.proofs.packets.packet_sound.Goals as goal
 pub read_segment-requires : goal.read_segment-requires
 read_segment-requires c = (sound_parts c.args.director.now c.args.row.now c.requires).settings.most
 
-pub returns-then-clock-director : goal.returns-then-clock-director
+pub returns-in-Ok : goal.returns-in-Ok
 unfolding packet_held
-returns-then-clock-director c =
+returns-in-Ok c =
     simp (
       ← c.read_segment.ensures,
       c.in-Ok.is,
@@ -33,8 +33,8 @@ pub returns-in-Err : goal.returns-in-Err
 unfolding packet_held
 returns-in-Err c = simp (← c.read_segment.ensures, c.in-Err.is, sound_words c.args.director.now c.args.row.now c.requires)
 
-pub returns-else-clock-director : goal.returns-else-clock-director
+pub returns-in-Ok-2 : goal.returns-in-Ok-2
 unfolding packet_held
-returns-else-clock-director c =
+returns-in-Ok-2 c =
     rw (← c.read_segment.ensures, c.in-Ok.is, le-ltb _ _ c.if-clock-director.false)
     (rw (c.settle.ensures.row, c.settle.ensures.director, slots-words) at c.route.ensures)
