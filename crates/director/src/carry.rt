@@ -1,4 +1,5 @@
-// What was decided of a packet, carried out on state, row and packet.
+// What was decided of a packet, carried out on state, row and packet. (These go one by one, with the segment: see `settle` for why not in one
+// struct.)
 ghost use Rattle.std.specs.Prelude.{◌≡◌, ◌<◌, ◌≤◌, ◌/◌, length};
 ghost use Rattle.servers.specs.Servers.{count_at};
 ghost use Rattle.packet.specs.Redirect.{Redirectable};
@@ -59,7 +60,6 @@ fn pass(
     Answer::Passed(no, change)
 }
 
-// (State, row, packet and segment go one by one from here on: see `settle` for why not in one struct.)
 // The packet's connection, in slot `k`, is kept.
 fn keep(
     director: &Director,

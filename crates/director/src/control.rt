@@ -23,28 +23,28 @@ fn judge_number(director: &Director, row: &[u32], no: ServerNo) -> Result<(), Re
     Ok(())
 }
 
-// The state with one weight set.
-fn with_server_weight(mut director: Director, no: ServerNo, weight: u16) -> Director
-    ensures { result ≡ weighed director no.0 weight }
+// Sets one weight in a state.
+fn set_server_weight(director: &mut Director, no: ServerNo, weight: u16)
+    ensures { director.new ≡ weighed director.old no.0 weight }
 {
     let old = weight_at(&director.servers, no);
     servers::set_weight(&mut director.servers, no, weight);
     director.weights = weights_of(&director.servers, director.service.servers);
     director.walk = after_weight(director.service.scheduler, director.walk, old, weight);
-    director
 }
 
 // Sets a server's weight.
 #[tactic(auto, unfolding(crate::specs::Control::weight_of))]
-pub fn set_weight(director: Director, row: &[u32], no: ServerNo, weight: u16) -> Outcome
+pub fn set_weight(mut director: Director, row: &[u32], no: ServerNo, weight: u16) -> Outcome
     ensures { result_of result row.now [] ≡ weight_of director row.now no.0 weight }
 {
     if let Err(why) = judge_number(&director, row, no) {
         return refuse(director, why);
     }
+    set_server_weight(&mut director, no, weight);
     Outcome {
         answer: Answer::Done,
-        director: with_server_weight(director, no, weight),
+        director,
     }
 }
 

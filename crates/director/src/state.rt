@@ -112,7 +112,7 @@ pub struct Outcome {
 }
 
 // A refusal: the state as it is.
-pub(crate) fn refuse(director: Director, why: Refusal) -> Outcome
+pub fn refuse(director: Director, why: Refusal) -> Outcome
     ensures { result ≡ refused_by why director }
 {
     Outcome {
@@ -122,7 +122,7 @@ pub(crate) fn refuse(director: Director, why: Refusal) -> Outcome
 }
 
 // One connection less on server `no`, which has one.
-pub(crate) fn with_one_less(director: &mut Director, no: ServerNo)
+pub fn with_one_less(director: &mut Director, no: ServerNo)
     requires { 1 ≤ count_at director.old.servers no.0 }
     ensures { director.new ≡ with_one_less director.old no.0 }
 {

@@ -9,7 +9,7 @@ ghost use Rattle.nidhaaguf_serve.specs.Serve.{ServedFrom};
 use director::state::Director;
 use nidhaaguf::reply::reply_of;
 use nidhaaguf::state::State;
-use serve::serve;
+use serve::{Serving, serve};
 
 // NidhaagufServed: the state after the packets, the tick's answer, and how many packets there were, 816 bytes.
 #[repr(C)]
@@ -41,7 +41,7 @@ pub extern "C" fn nidhaaguf_serve(
 ) -> Served
     ensures { ServedFrom state row.old buffer.old records.old counters.old clock most result row.new buffer.new records.new counters.new }
 {
-    let serving = serve(
+    let Serving { outcome, progress } = serve(
         descriptor,
         Director::from(state),
         row,
@@ -52,8 +52,7 @@ pub extern "C" fn nidhaaguf_serve(
         most,
         stop,
     );
-    let progress = serving.progress;
-    let reply = reply_of(state.place, serving.outcome);
+    let reply = reply_of(state.place, outcome);
     Served {
         state: reply.state,
         refusal: reply.refusal,

@@ -40,7 +40,7 @@ fn take_told(
     answer
 }
 
-// Sends an accepted packet on; tells whether the device took it not.
+// Sends an accepted packet on; tells whether the device did not take it.
 fn is_unsent(descriptor: i32, packet: &[u8], answer: Answer) -> bool {
     is_accepted(answer) && libc::write(descriptor, packet) < 0
 }
@@ -50,9 +50,9 @@ fn is_unsent(descriptor: i32, packet: &[u8], answer: Answer) -> bool {
 struct Exchange {
     // accepted and not sent
     unsent: bool,
-    // where it ends in what was lent for it, and its refusal's number (a number, as `stop` of the C call is)
+    // where it ends in what was lent for it
     end: usize,
-    refusal: u32,
+    answer: Answer,
 }
 
 // Serves packet `k`.
@@ -73,7 +73,7 @@ fn serve_packet(
     Exchange {
         unsent: is_unsent(descriptor, packet, answer),
         end: packet.len(),
-        refusal: Told::from(answer).refusal,
+        answer,
     }
 }
 
@@ -138,10 +138,13 @@ fn turn_from(
     })
 }
 
+// Room for the longest packet.
+const LONGEST: usize = 65536;
+
 // Whether no packet is to be read after one: less room is left than the longest packet takes, or it was refused so that the caller wants to
 // know at once.
-fn is_last(left: usize, refusal: u32, stop: u32) -> bool {
-    left < 65536 || stop != 0 && refusal == stop
+fn is_last(left: usize, answer: Answer, stop: u32) -> bool {
+    left < LONGEST || stop != 0 && Told::from(answer).refusal == stop
 }
 
 // What many reads came to: the packets taken, how many of them were accepted and not sent, and where the last one ends.
@@ -150,6 +153,15 @@ pub struct Progress {
     pub taken: u32,
     pub unsent: u32,
     pub end: usize,
+}
+
+impl Progress {
+    // No packet yet.
+    const NONE: Progress = Progress {
+        taken: 0,
+        unsent: 0,
+        end: 0,
+    };
 }
 
 // Serves a current state until a read gives nothing, `most` packets are taken, a record or room is missing, or one is refused with
@@ -168,34 +180,22 @@ fn serve_current(
     ensures few { (result.taken ≤ packets_traced records.old most) × (result.unsent ≤ result.taken) }
     ensures served { Served (standing director.old row.old counters.old records.old 0 []) (standing director.new row.new counters.new records.new result.taken (take result.end buffer.new)) result.taken }
 {
-    let most = packets_traced(records, most);
-    let mut unsent = 0;
-    let mut end = 0;
-    for k in 0..most {
+    let mut progress = Progress::NONE;
+    for k in 0..packets_traced(records, most) {
+        let at = progress.end;
         let Some(done) = turn_from(
-            descriptor, director, row, buffer, end, records, k as usize, counters,
+            descriptor, director, row, buffer, at, records, k as usize, counters,
         ) else {
-            return Progress {
-                taken: k,
-                unsent,
-                end,
-            };
+            break;
         };
-        unsent += u32::from(done.unsent);
-        end = done.end;
-        if is_last(buffer.len() - end, done.refusal, stop) {
-            return Progress {
-                taken: k + 1,
-                unsent,
-                end,
-            };
+        progress.taken = k + 1;
+        progress.unsent += u32::from(done.unsent);
+        progress.end = done.end;
+        if is_last(buffer.len() - done.end, done.answer, stop) {
+            break;
         }
     }
-    Progress {
-        taken: most,
-        unsent,
-        end,
-    }
+    progress
 }
 
 // What serving came to: the tick's answer, with the state after the packets, and these.
@@ -224,11 +224,7 @@ pub fn serve(
     ensures served { Served (after_tick director row.old counters.old records.old clock) (standing result.outcome.director row.new counters.new records.new result.progress.taken (take result.progress.end buffer.new)) result.progress.taken }
 {
     let mut outcome = tick(director, row, clock);
-    let mut progress = Progress {
-        taken: 0,
-        unsent: 0,
-        end: 0,
-    };
+    let mut progress = Progress::NONE;
     if is_accepted(outcome.answer) {
         progress = serve_current(
             descriptor,

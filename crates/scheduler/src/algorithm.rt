@@ -1,4 +1,4 @@
-// What a published scheduler is. A new one is a file with its impl, and a line in the crate's root.
+// What a published scheduler is. A new one is a file with its impl, and an arm of the root's `by_number!`.
 ghost use Rattle.std.specs.Prelude.{◌≡◌};
 ghost use Rattle.scheduler.specs.Scheduler.{Scheduler};
 
