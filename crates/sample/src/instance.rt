@@ -14,7 +14,7 @@ use crate::print::Told;
 use director::control::{count, set_weight};
 use director::packets::{inbound, outbound};
 use director::setup::set_up;
-use director::state::{Director, Service};
+use director::state::{Director, Outcome, Service};
 use director::tick::tick;
 use servers::{Server, ServerNo};
 
