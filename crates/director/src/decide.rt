@@ -17,7 +17,8 @@ use table::find::{find_client, find_free, find_free_with};
 use table::slot::{SlotNo, slot_at};
 
 // What is to become of a packet: its refusal, or its connection's slot and, where one opens, the server and the walk after the pick; where
-// one opens as another ends, that one's slot first. (Not a `Result`: the definition `decided` and its laws, as `FullFirst`, go by these five cases.)
+// one opens as another ends, that one's slot first. (Not a `Result`: each function here ends with a case, so that no `?` would be
+// served, and each other case would stand in an `Ok`.)
 #[derive(Clone, Copy)]
 pub enum Decision {
     Refuse(Refusal),

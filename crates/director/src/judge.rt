@@ -54,6 +54,7 @@ pub fn judge_settings(service: Service, servers: &[Server; 64], row: &[u32]) -> 
     Ok(())
 }
 
+// (For why n ≤ 64 is asked see `number_of` in `servers`.)
 // Whether what refusals 1 to 4 don't ask about is sound too: unused places, the numbers held of the weights, walk, slots and counts.
 #[tactic(auto, unfolding(crate::specs::Judge::parts_sound))]
 fn are_parts_sound(director: &Director, row: &[u32]) -> bool

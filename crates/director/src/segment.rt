@@ -38,7 +38,8 @@ fn from_client(service: Service, p: Packet) -> Result<Segment, Refusal>
     })
 }
 
-// An outbound packet: its source is a server's address and port, or refusal 10.
+// An outbound packet: its source is a server's address and port, or refusal 10. (For why n ≤ 64 is asked here and below see `number_of` in
+// `servers`.)
 fn from_server(director: &Director, p: Packet) -> Result<Segment, Refusal>
     requires { director.now.service.servers ≤ 64 }
     ensures { result ≡ from_server director.now.service director.now.servers p }

@@ -31,7 +31,7 @@ pub struct Service {
 }
 
 // The state that goes into a call and comes back from it; the connection table is lent beside it. The servers are not next to the
-// service: the two would be copied as one, and the compiler then leaves out fewer of the array's copies.
+// service: the two would be copied as one, and the compiler then leaves out fewer of the array's copies. (An array by value: fixed memory, no heap.)
 #[derive(Clone, Copy)]
 pub struct Director {
     pub servers: [Server; 64],
@@ -94,8 +94,8 @@ pub enum Change {
     Ended = 3,
 }
 
-// What a call answers: a setup or weight call `Done`, a count or tick call a number, a packet call the server and the change. (Not a `Result`: the
-// theorems of `audit` go by these four cases, as `Demand1`.)
+// What a call answers: a setup or weight call `Done`, a count or tick call a number, a packet call the server and the change. (Not a `Result`: all
+// who read one go by the four cases side by side, as `told_by` does.)
 #[derive(Clone, Copy)]
 pub enum Answer {
     Done,

@@ -8,7 +8,7 @@ use director::state::Way;
 // The words of a packet's record.
 const RECORD: usize = 5;
 
-// Writes the record of packet `k`, of `n` bytes.
+// Writes the record of packet `k`, of `n` bytes. (That the record is there is asked as an index asks it, here and of what calls this.)
 pub fn write_trace(records: &mut [u32], k: usize, n: usize, way: Way, told: Told)
     requires { 5 * k + 4 < length records.old }
     ensures { records.new ≡ traced records.old k n way told }
