@@ -55,7 +55,8 @@ fn belongs_to(sender: Sender, no: ServerNo) -> bool
     }
 }
 
-// Whether a packet ends a connection in that phase and opens a new one: TCP's 4 and an opening (UDP is never in phase 4).
+// Whether a packet ends a connection in that phase and opens a new one: TCP's 4 and an opening (UDP is never in phase 4). (A
+// number, as the lent row has it.)
 fn renews_connection(segment: Segment, phase: u32) -> bool
     ensures { result ≡ renews segment phase }
 {

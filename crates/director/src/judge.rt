@@ -9,7 +9,7 @@ use servers::Server;
 use servers::rules::{Rule, all_keep};
 use table::slot::is_row;
 
-// Whether a number is TCP's or UDP's (refusal 2).
+// Whether a number is TCP's or UDP's (refusal 2: a service may be handed in with any).
 fn is_protocol(protocol: u8) -> bool
     ensures { result ≡ is_protocol protocol }
 {
@@ -33,7 +33,7 @@ fn are_sizes_right(n: u32, row: &[u32]) -> bool
     (1..=64).contains(&n) && is_row(row)
 }
 
-// The first of refusals 1 to 4 that the settings meet.
+// The first of refusals 1 to 4 that the settings meet. (`n` is used several times.)
 #[tactic(auto, unfolding(crate::specs::Judge::settings_judged))]
 pub fn judge_settings(service: Service, servers: &[Server; 64], row: &[u32]) -> Result<(), Refusal>
     ensures { result ≡ settings_judged service servers.now row.now }
@@ -54,8 +54,8 @@ pub fn judge_settings(service: Service, servers: &[Server; 64], row: &[u32]) -> 
     Ok(())
 }
 
-// (For why n ≤ 64 is asked see `number_of` in `servers`.)
-// Whether what refusals 1 to 4 don't ask about is sound too: unused places, the numbers held of the weights, walk, slots and counts.
+// Whether what refusals 1 to 4 don't ask about is sound too: unused places, the numbers held of the weights, walk, slots and counts. (For why
+// n ≤ 64 is asked see `number_of` in `servers`. What is taken from the service is used several times.)
 #[tactic(auto, unfolding(crate::specs::Judge::parts_sound))]
 fn are_parts_sound(director: &Director, row: &[u32]) -> bool
     requires { director.now.service.servers ≤ 64 }

@@ -7,7 +7,7 @@ use packet::read::{Flags, Packet, read_packet};
 use servers::ServerNo;
 use servers::rules::number_of;
 
-// Who sent a packet.
+// Who sent a packet. (Not an `Option<ServerNo>`: a client is no absence, and the definitions go by the two cases.)
 #[derive(Clone, Copy)]
 pub enum Sender {
     Client,
@@ -39,7 +39,7 @@ fn from_client(service: Service, p: Packet) -> Result<Segment, Refusal>
 }
 
 // An outbound packet: its source is a server's address and port, or refusal 10. (For why n ≤ 64 is asked here and below see `number_of` in
-// `servers`.)
+// `servers`. `n` keeps the line short.)
 fn from_server(director: &Director, p: Packet) -> Result<Segment, Refusal>
     requires { director.now.service.servers ≤ 64 }
     ensures { result ≡ from_server director.now.service director.now.servers p }

@@ -11,7 +11,7 @@ use servers::Server;
 use servers::fresh::fresh_servers;
 use table::clear::clear_row;
 
-// The state that an accepted setup makes.
+// The state that an accepted setup makes. (`n` is used several times.)
 fn new_director(service: Service, given: &[Server; 64]) -> Director
     ensures { result ≡ new_director service given.now }
 {

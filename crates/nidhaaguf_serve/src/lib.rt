@@ -16,7 +16,7 @@ use serve::{Serving, serve};
 #[derive(Clone, Copy)]
 pub struct Served {
     pub state: State,
-    // the tick's: 0 for accepted, else the refusal's number
+    // the tick's: 0 for accepted, else the refusal's number (a number, for C)
     pub refusal: u32,
     // how many connections the tick removed
     pub removed: u32,
@@ -26,7 +26,8 @@ pub struct Served {
 }
 
 // Moves the clock on, then takes packets from the descriptor and sends them on to it, each by the call that its destination asks for, until a
-// read gives nothing, `most` packets are taken, a record or room for the longest packet is missing, or one is refused with `stop`.
+// read gives nothing, `most` packets are taken, a record or room for the longest packet is missing, or one is refused with `stop` (a
+// number, as C hands it in: any may come).
 #[unsafe(no_mangle)]
 pub extern "C" fn nidhaaguf_serve(
     descriptor: i32,

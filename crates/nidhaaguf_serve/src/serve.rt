@@ -165,7 +165,8 @@ impl Progress {
 }
 
 // Serves a current state until a read gives nothing, `most` packets are taken, a record or room is missing, or one is refused with
-// `stop`. Each packet is read behind the one before.
+// `stop`. Each packet is read behind the one before. (By number, which a record is written at: of what is
+// written through `chunks_mut` a proof knows the length alone. `at` keeps the call in one line.)
 fn serve_current(
     descriptor: i32,
     director: &mut Director,

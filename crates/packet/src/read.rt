@@ -47,7 +47,8 @@ impl From<Fault> for u8 {
     }
 }
 
-// An IPv4 header that was read: its own length and the packet's in bytes, its addresses, and what it carries.
+// An IPv4 header that was read: its own length and the packet's in bytes, its addresses, and what it carries (a byte of it: any may
+// come).
 #[derive(Clone, Copy)]
 pub struct Header {
     pub length: usize,

@@ -25,7 +25,7 @@ pub struct Instance<const WORDS: usize> {
     pub row: [u32; WORDS],
 }
 
-// The director's six calls by their names, and two that make the packet themselves.
+// The director's six calls by their names, and two that make the packet themselves. (Servers go by value into setup, as SCOPE 2.2 has them.)
 impl<const WORDS: usize> Instance<WORDS> {
     // Nothing is set up, and the row is zeros.
     pub fn new() -> Self

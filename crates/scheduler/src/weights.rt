@@ -19,7 +19,7 @@ fn gcd(a: u16, b: u16) -> u16
     if b == 0 { a } else { gcd(b, a % b) }
 }
 
-// Both numbers of the first n weights.
+// Both numbers of the first n weights. (A cast to `usize`: how many places.)
 pub fn weights_of(servers: &[Server; 64], n: u32) -> Weights
     ensures { result ≡ weights_of servers.now n }
 {

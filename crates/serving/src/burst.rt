@@ -26,7 +26,7 @@ fn take_one(director: &mut Director, row: &mut [u32], packet: &mut [u8]) -> Answ
     take_current(way, director, row, packet)
 }
 
-// The length of packet `k`.
+// The length of packet `k`. (A cast to `usize`: a place in a slice.)
 fn length_of(records: &[u32], k: usize) -> usize
     requires { 4 * k + 3 < length records.now }
     ensures { result ≡ length_of records.now k }

@@ -1,4 +1,4 @@
-// Counters of answers: how often each was given to packets of each way.
+// Counters of answers: how often each was given to packets of each way. (Casts: an enum's own number, for a place among them.)
 ghost use Rattle.std.specs.Prelude.{◌≡◌, ◌≤◌};
 ghost use Rattle.serving.specs.Counters.{first_of, change_index, answer_index, counted};
 

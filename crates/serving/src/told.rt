@@ -23,7 +23,7 @@ const DONE: Told = Told {
     change: 0,
 };
 
-// An answer in numbers.
+// An answer in numbers. (A cast: the change's own number.)
 impl From<Answer> for Told {
     ghost from_gives = { λ answer told. told ≡ told_by answer };
 

@@ -1,4 +1,4 @@
-// What a serve tells of each packet that it has taken.
+// What a serve tells of each packet that it has taken. (Casts: a way's number, and numbers that lose nothing or stand modulo 2³².)
 ghost use Rattle.std.specs.Prelude.{◌≡◌, ◌+◌, ◌*◌, ◌<◌, length};
 ghost use Rattle.serving.specs.Trace.{traced, packets_traced};
 

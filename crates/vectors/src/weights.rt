@@ -29,7 +29,7 @@ fn weigh(rt: &impl Print, instance: &mut Instance<5>, no: ServerNo, weight: u16)
     print_weights(rt, told, instance)
 }
 
-// The paragraph of one scheduler.
+// The paragraph of one scheduler, by its number: a field of `Service`.
 fn weights_by(rt: &impl Print, scheduler: u8) -> io::Result<()> {
     println!(rt;
         "largest weight and divisor, scheduler {scheduler}: weights 6, 4, 0; server 0's set to 3 and to 0, server 1's to 0"
