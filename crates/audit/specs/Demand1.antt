@@ -1,7 +1,6 @@
 -- Demand 1 (SCOPE 13.1): which refusal a call gives, exactly, and what a refused call leaves; of every state, row and packet, sound or not.
 -- Assumes nothing: these are definitions.
 use Rattle.std.specs.Prelude.{ℕ, ◌≤◌, Bool, true, false, cond, not, ◌&&◌, ◌||◌, List, [], ◌∷◌, ◌≡◌, eqb, ltb, get_or, Ok, Err, Some, None, Option}
-use Rattle.table.specs.declared.slot.SlotNo.{SlotNo}
 use Rattle.checksum.specs.Ones.{word_at}
 use Rattle.packet.specs.Bytes.{address_at, payload}
 use Rattle.packet.specs.Reading.{broken, header_verifies, fragment, tcp_malformed, udp_malformed}
@@ -10,6 +9,7 @@ use Rattle.servers.specs.declared.rules.Rule.{Rule}
 use Rattle.servers.specs.Rules.{all_keep, is_nobody, number_of}
 use Rattle.scheduler.specs.Weights.{no_weight}
 use Rattle.table.specs.declared.slot.Slot.{Slot}
+use Rattle.table.specs.declared.slot.SlotNo.{SlotNo}
 use Rattle.table.specs.Slots.{slots, words, free_slot, is_unused}
 use Rattle.table.specs.Find.{of_client, first_from}
 use Rattle.director.specs.declared.state.Service.{Service}

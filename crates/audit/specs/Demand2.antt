@@ -1,6 +1,5 @@
 -- Demand 2 (SCOPE 13.2): who is picked, and what rewriting makes of a packet; of every packet call. Assumes nothing: these are definitions.
 use Rattle.std.specs.Prelude.{ℕ, Bool, false, cond, List, ◌≡◌, get_or, take, drop, Ok, Some, None, Option}
-use Rattle.table.specs.declared.slot.SlotNo.{SlotNo}
 use Rattle.checksum.specs.Ones.{Bytes}
 use Rattle.packet.specs.declared.read.Packet.{Packet}
 use Rattle.packet.specs.declared.redirect.Side.{Side}
@@ -12,6 +11,7 @@ use Rattle.servers.specs.declared.ServerNo.{ServerNo}
 use Rattle.servers.specs.Servers.{server_at, lowered}
 use Rattle.scheduler.specs.Laws.{Published}
 use Rattle.table.specs.declared.slot.Slot.{Slot}
+use Rattle.table.specs.declared.slot.SlotNo.{SlotNo}
 use Rattle.table.specs.Slots.{slots, free_slot}
 use Rattle.table.specs.Find.{of_client, first_from}
 use Rattle.director.specs.declared.state.Director.{Director}

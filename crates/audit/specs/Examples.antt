@@ -1,9 +1,9 @@
 -- The examples P1 to P11 (SCOPE section 11) as one table: what the written rules give, beside what SCOPE prints. Assumes nothing: these are definitions.
 use Rattle.std.specs.Prelude.{ℕ, zero, suc, List, [], ◌∷◌, ◌++◌, length, replicate, Some, None, Option}
-use Rattle.servers.specs.declared.ServerNo.{ServerNo}
 use Rattle.checksum.specs.Ones.{edited}
 use Rattle.packet.specs.Redirect.{sum_written}
 use Rattle.servers.specs.declared.Server.{Server}
+use Rattle.servers.specs.declared.ServerNo.{ServerNo}
 use Rattle.scheduler.specs.declared.walk.Walk.{Walk}
 use Rattle.scheduler.specs.Weights.{weights_of}
 use Rattle.scheduler.specs.ByNumber.{start_of, pick_of}

@@ -1,10 +1,10 @@
 -- What a packet says of a connection, and refusals 6, 20, 7 to 10. Assumes nothing: these are definitions.
 use Rattle.std.specs.Prelude.{ℕ, cond, ◌&&◌, List, eqb, Result, Ok, Err, Some, None, Option}
 use Rattle.packet.specs.declared.read.Fault.{Fault}
-use Rattle.servers.specs.declared.ServerNo.{ServerNo}
 use Rattle.packet.specs.declared.read.Packet.{Packet}
 use Rattle.packet.specs.Reading.{read_packet}
 use Rattle.servers.specs.declared.Server.{Server}
+use Rattle.servers.specs.declared.ServerNo.{ServerNo}
 use Rattle.servers.specs.Rules.{number_of}
 use Rattle.director.specs.declared.state.Service.{Service}
 use Rattle.director.specs.declared.state.Refusal.{Refusal}

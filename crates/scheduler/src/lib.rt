@@ -21,8 +21,9 @@ use walk::{Pick, Walk};
 use weighted_round_robin::WeightedRoundRobin;
 use weights::Weights;
 
-// Calls a method of the scheduler of a number. A macro, since the schedulers are three types. The last arm is scheduler 4, since refusals 2 and 15 let no other
-// number come here. (Numbers, and not an enum, since the laws of specs/ speak of every number, as `PickLaw`, and C hands a number in.)
+// Calls a method of the scheduler of a number. A macro, since the schedulers are three types. The last arm is scheduler 4, since refusals 2 and
+// 15 let no other number come here. (Numbers, and not an enum, since the laws of specs/ speak of every number, as `PickLaw`, and C hands a number
+// in.)
 macro_rules! by_number {
     ($number:expr, $algorithm:ident => $call:expr) => {
         match $number {
