@@ -32,16 +32,25 @@ pub enum Decision {
 fn is_syn(flags: Flags) -> bool
     ensures { result ≡ is_syn flags }
 {
-    flags.syn && !flags.ack && !flags.rst && !flags.fin
+    matches!(
+        flags,
+        Flags {
+            syn: true,
+            ack: false,
+            rst: false,
+            fin: false
+        }
+    )
 }
 
 // Whether a packet opens a connection where its client has none. (A number, as the service has it: see `Service`.)
 fn opens_connection(protocol: u8, segment: Segment) -> bool
     ensures { result ≡ opens protocol segment }
 {
-    match segment.sender {
-        Sender::Server(_) => false,
-        Sender::Client => protocol != TCP || is_syn(segment.flags),
+    match (segment.sender, protocol) {
+        (Sender::Server(_), _) => false,
+        (Sender::Client, TCP) => is_syn(segment.flags),
+        (Sender::Client, _) => true,
     }
 }
 
@@ -60,7 +69,10 @@ fn belongs_to(sender: Sender, no: ServerNo) -> bool
 fn renews_connection(segment: Segment, phase: u32) -> bool
     ensures { result ≡ renews segment phase }
 {
-    phase == 4 && opens_connection(TCP, segment)
+    match phase {
+        4 => opens_connection(TCP, segment),
+        _ => false,
+    }
 }
 
 // The server that is next, by the scheduler.
@@ -116,10 +128,10 @@ fn decide_present(director: &Director, row: &[u32], segment: Segment, k: SlotNo)
     if renews_connection(segment, slot.phase) {
         return decide_renewal(director, row, k);
     }
-    if segment.flags.rst {
-        return Decision::End(k);
+    match segment.flags.rst {
+        true => Decision::End(k),
+        false => Decision::Keep(k),
     }
-    Decision::Keep(k)
 }
 
 // A packet whose client has no connection.
