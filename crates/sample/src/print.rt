@@ -1,6 +1,35 @@
-// Answers as text.
+// Answers as text, and the output that it goes to.
 use director::state::{Answer, Change};
-use std::fmt;
+use std::fmt::{self, Write};
+
+// The standard output. A write that fails is passed over, and the next one is tried. (By the kit's `io`: std's own output tells a failure,
+// and rests on what is stated of an error's number.)
+#[derive(Clone, Copy)]
+pub struct Output;
+
+impl fmt::Write for Output {
+    fn write_str(&mut self, text: &str) -> fmt::Result {
+        io::write_all(1, text.as_bytes());
+        Ok(())
+    }
+}
+
+impl Print for Output {
+    fn print<D: fmt::Display + Drop>(&self, value: D) -> std::io::Result<()> {
+        let _ = write!(Output, "{value}");
+        Ok(())
+    }
+
+    fn println<D: fmt::Display + Drop>(&self, value: D) -> std::io::Result<()> {
+        let _ = writeln!(Output, "{value}");
+        Ok(())
+    }
+
+    fn write_all(&self, bytes: &[u8]) -> std::io::Result<()> {
+        io::write_all(1, bytes);
+        Ok(())
+    }
+}
 
 // An answer, to be printed.
 #[derive(Clone, Copy)]

@@ -17,6 +17,7 @@ use checksum::{edit, ones_sum};
 use sample::begin::{CLIENT, VIRTUAL, replicas, service};
 use sample::frame::{SYN, tcp};
 use sample::instance::Instance;
+use sample::print::Output;
 use servers::ServerNo;
 use std::io;
 
@@ -78,15 +79,21 @@ fn rows(rt: &impl Print) -> io::Result<()> {
     Ok(())
 }
 
-fn main(rt: HostRuntime) -> io::Result<()> {
-    checksums(&rt)?;
-    sums(&rt)?;
-    edits_in_a_row(&rt)?;
-    one_slot(&rt)?;
-    clocks(&rt)?;
-    offsets(&rt)?;
-    rows(&rt)?;
-    renewals(&rt)?;
-    header_checksums(&rt)?;
-    weights(&rt)
+// All of them.
+fn tell(rt: &impl Print) -> io::Result<()> {
+    checksums(rt)?;
+    sums(rt)?;
+    edits_in_a_row(rt)?;
+    one_slot(rt)?;
+    clocks(rt)?;
+    offsets(rt)?;
+    rows(rt)?;
+    renewals(rt)?;
+    header_checksums(rt)?;
+    weights(rt)
+}
+
+// (`Output` passes a failed write over, so there is no error to tell.)
+fn main() {
+    let _ = tell(&Output);
 }

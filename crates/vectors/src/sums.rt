@@ -4,6 +4,8 @@ use checksum::ones_sum;
 use std::io;
 
 // The most bytes that are summed by groups alone; then a word and a byte more; then two words more, with a 1 in the last.
+// (Not inlined: its arrays would lie in the frame of `main`, below those of the long rows.)
+#[inline(never)]
 fn long(rt: &impl Print) -> io::Result<()> {
     println!(rt;
         "sums of 65532 and of 65535 bytes ff; of 65536 bytes, 01 the last and 00 the others"
