@@ -8,6 +8,7 @@ pub mod Refusals
 pub mod Ending
 pub mod Decisions
 pub mod Feasible
+pub mod Forwarding
 pub mod Carried
 pub mod KeepingPackets
 pub mod Idle
