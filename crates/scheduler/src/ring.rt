@@ -9,7 +9,7 @@ use servers::ServerNo;
 pub fn last(n: u32) -> ServerNo
     ensures { result.0 ≡ n - 1 }
 {
-    ServerNo(most_passed(n))
+    ServerNo(n.max(1) - 1)
 }
 
 // How many of the n numbers a walk may pass: all but the last that it comes to.

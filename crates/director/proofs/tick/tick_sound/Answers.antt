@@ -1,5 +1,4 @@
 -- `tick::tick_sound` meets its contract: an earlier clock leaves the row, which is the words of its slots.
-use Rattle.std.proofs.Common.{sym}
 use borrow.Author.Tests.{lt-ltb}
 use Rattle.director.proofs.Sound.{sound_words}
 use Rattle.director.proofs.tick.tick_sound.Goals as goal
