@@ -4,7 +4,7 @@ ghost use Rattle.std.specs.Prelude.{◌≡◌};
 use director::state::{Answer, Change};
 use std::fmt::{self, Write};
 
-// Text on its way to the standard output: a line is one write, or a part of it where it is longer than the bytes here.
+// A line on its way to the standard output, in one write, or in one for each 128 bytes.
 #[derive(Clone, Copy)]
 struct Line {
     bytes: [u8; 128],
