@@ -1,7 +1,8 @@
-// What the programs share: packets to try a director with, a director and its row to begin with, and answers as text.
+// What the programs share: packets to try a director with, a director and its row to begin with, answers as text, and where text goes.
 #![tactic(auto)]
 
 pub mod begin;
 pub mod frame;
 pub mod instance;
+pub mod output;
 pub mod print;

@@ -4,7 +4,7 @@
 use sample::begin::{FIRST, replicas, service};
 use sample::frame::{ACK, FIN, RST, SYN};
 use sample::instance::Instance;
-use sample::print::Output;
+use sample::output::Output;
 use servers::ServerNo;
 use std::io;
 

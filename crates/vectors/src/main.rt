@@ -17,7 +17,7 @@ use checksum::{edit, ones_sum};
 use sample::begin::{CLIENT, VIRTUAL, replicas, service};
 use sample::frame::{SYN, tcp};
 use sample::instance::Instance;
-use sample::print::Output;
+use sample::output::Output;
 use servers::ServerNo;
 use std::io;
 
